@@ -8,13 +8,18 @@
 
 pub mod memory;
 pub mod outside;
+pub mod sections;
 pub mod standard;
 pub mod stream;
 pub mod texts;
 
 pub use memory::{MemorySink, MemorySource};
 pub use outside::{Failed, Sink, Source};
+pub use sections::Section;
 pub use standard::{ReaderSource, WriterSink};
 pub use std::alloc::AllocError as Memory;
 pub use stream::{InputFault, read_to_end, write_whole};
 pub use texts::{Bytes, Text, Words};
+
+#[cfg(test)]
+mod tests;

@@ -1,0 +1,139 @@
+use crate::*;
+use std::alloc::Global;
+use std::test::Fail;
+
+/// Reads a source whose calls of these numbers fail, up to a limit.
+fn read_of(
+    alloc: Global,
+    bytes: &[u8],
+    failing: &[u64],
+    limit: usize,
+) -> Result<Vec<u8>, InputFault>
+    requires { limit < 2 ^ 32 }
+{
+    let failing = Vec::from_slice(alloc, failing)?;
+    let mut source = MemorySource::new(Bytes::from_slice(alloc, bytes)?, failing);
+    read_to_end(alloc, &mut source, limit)
+}
+
+/// The outcome of writing a piece, and what a sink of this room then holds.
+fn write_of(
+    alloc: Global,
+    room: usize,
+    failing: &[u64],
+    piece: &[u8],
+) -> Result<(bool, Vec<u8>), Memory> {
+    let mut sink = MemorySink::new(alloc, room, Vec::from_slice(alloc, failing)?)?;
+    let first = write_whole(&mut sink, b"<").is_ok();
+    let second = write_whole(&mut sink, piece).is_ok();
+    Ok((first && second, Vec::from_slice(alloc, sink.taken())?))
+}
+
+#[test]
+fn reads_a_source_to_its_end(rt: HostRuntime) -> Result<(), Fail> {
+    let alloc = rt.alloc();
+    let long = vec![in alloc; b'x'; 10_000]?;
+    for (failing, limit, want) in [
+        ([0], 10_000, Ok(10_000)),
+        ([0], 9_999, Err(InputFault::Long)),
+        ([0], 0, Err(InputFault::Long)),
+        ([1], 10_000, Err(InputFault::Failed)),
+        ([2], 10_000, Err(InputFault::Failed)),
+        ([4], 10_000, Err(InputFault::Failed)),
+        ([5], 10_000, Ok(10_000)),
+    ] {
+        let got = read_of(alloc, &long, &failing, limit).map(|bytes| bytes.len());
+        assert_eq!(rt; got, want, "failing {failing:?}, limit {limit}");
+    }
+    Ok(())
+}
+
+#[test]
+fn writes_into_the_room_of_a_sink(rt: HostRuntime) -> Result<(), Fail> {
+    let alloc = rt.alloc();
+    for (room, failing, whole, taken) in [
+        (4, [0], true, "<abc"),
+        (3, [0], false, "<"),
+        (4, [1], false, "abc"),
+        (4, [2], false, "<"),
+    ] {
+        let (ok, got) = write_of(alloc, room, &failing, b"abc")?;
+        assert_eq!(rt; ok, whole, "room {room}, failing {failing:?}");
+        assert_eq!(rt;
+            got.as_slice(),
+            taken.as_bytes(),
+            "room {room}, failing {failing:?}"
+        );
+    }
+    Ok(())
+}
+
+#[test]
+fn reads_and_spells_sections(rt: HostRuntime) -> Result<(), Fail> {
+    let alloc = rt.alloc();
+    let mut full = String::from_str(alloc, "1")?;
+    for _ in 1..40 {
+        full.push_str(".1")?;
+    }
+    let long = format!(in alloc; "{full}.1")?;
+    for text in ["1", "2.1", "65535.1.10", full.as_str()] {
+        let section = Section::read(text).ok_or("a section")?;
+        let spelling = section.spell(alloc)?;
+        assert_eq!(rt; spelling.as_str(), text);
+    }
+    for text in [
+        "",
+        "0",
+        "01",
+        "+1",
+        "1.",
+        ".1",
+        "1..1",
+        "65536",
+        "1.0",
+        "1 ",
+        "a",
+        "99999999999999999999",
+        long.as_str(),
+    ] {
+        assert!(rt; Section::read(text).is_none(), "{text}");
+    }
+    Ok(())
+}
+
+#[test]
+fn keeps_texts_bytes_and_words(rt: HostRuntime) -> Result<(), Fail> {
+    let alloc = rt.alloc();
+    let text = Text::from_text(alloc, "caf\u{e9}")?;
+    assert_eq!(rt; text.as_str(), "caf\u{e9}");
+    let string = text.into_string();
+    assert_eq!(rt; Text::from_string(string).as_str().len(), 5);
+    let mut bytes = Bytes::from_slice(alloc, b"a")?;
+    bytes.push(b'b')?;
+    bytes.extend_from_slice(b"cd")?;
+    let mut words = Words::new(alloc);
+    words.push(bytes)?;
+    let list = words.into_vec();
+    assert_eq!(rt; list.len(), 1);
+    let again = Words::from_vec(list);
+    assert_eq!(rt; again.as_slice().len(), 1);
+    let vec = Bytes::from_slice(alloc, b"xy")?.into_vec();
+    assert_eq!(rt; Bytes::from_vec(vec).as_slice(), b"xy".as_slice());
+    Ok(())
+}
+
+#[test]
+fn adapts_readers_and_writers(rt: HostRuntime) -> Result<(), Fail> {
+    let alloc = rt.alloc();
+    let mut source = ReaderSource::new(b"a message".as_slice());
+    let bytes = read_to_end(alloc, &mut source, 9).ok().ok_or("read whole")?;
+    assert_eq!(rt; bytes.as_slice(), b"a message".as_slice());
+    let mut room = [0u8; 4];
+    let mut sink = WriterSink::new(room.as_mut_slice());
+    assert!(rt; write_whole(&mut sink, b"page").is_ok());
+    assert!(rt;
+        write_whole(&mut sink, b"more").is_err(),
+        "a writer that takes nothing is at a fault"
+    );
+    Ok(())
+}
