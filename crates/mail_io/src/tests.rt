@@ -7,13 +7,12 @@ fn read_of(
     alloc: Global,
     bytes: &[u8],
     failing: &[u64],
-    limit: usize,
+    limit: u16,
 ) -> Result<Vec<u8>, InputFault>
-    requires { limit < 2 ^ 32 }
 {
     let failing = Vec::from_slice(alloc, failing)?;
     let mut source = MemorySource::new(Bytes::from_slice(alloc, bytes)?, failing);
-    read_to_end(alloc, &mut source, limit)
+    read_to_end(alloc, &mut source, usize::from(limit))
 }
 
 /// The outcome of writing a piece, and what a sink of this room then holds.
