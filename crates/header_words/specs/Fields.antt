@@ -1,16 +1,14 @@
 -- The fields of a header (RFC 5322 §2.2 and §3.6.8): a name, a colon and a value, which lines that begin with a space or a
 -- TAB go on with.
-use Rattle.std.specs.Prelude.{◌≡◌, ℕ, ◌+◌, ◌-◌, Bool, not, ◌&&◌, ◌||◌, List, [], ◌∷◌, ◌++◌, length, take, drop, nat_lt, nat_le, ◌==◌, if◌then◌else◌, Option, Some, None, map, filter, find, slice_index, take_while, is_some}
-use Rattle.std.specs.List.{position_or_len, list_all, flat_map}
-use Rattle.std.specs.Option.{option_to_list, option_map}
+use Rattle.std.specs.Prelude.{ℕ, ◌+◌, Bool, not, ◌&&◌, ◌||◌, List, [], ◌∷◌, length, take, drop, nat_lt, nat_le, ◌==◌, if◌then◌else◌, Option, filter, find, slice_index, take_while}
+use Rattle.std.specs.List.{position_or_len, list_all}
 use Rattle.std.specs.Str.{str_eq_ignore_ascii_case}
-use Rattle.std.specs.Str.Lines.{lines}
 use Rattle.header_words.specs.Lines.{header_lines, body_of}
 
--- a field; its value has a newline where a line was folded
+-- a field: its name, and the lines of its value
 pub record FieldValue : Type 0 where
   pub name : List ℕ
-  pub value : List ℕ
+  pub lines : List (List ℕ)
 
 -- a header: its fields in order, and where the body begins
 pub record Header : Type 0 where
@@ -31,27 +29,27 @@ is_colon b = b == 58
 abbrev pub is_continuation : List ℕ → Bool
 is_continuation line = nat_lt 0 (length line) && is_blank (slice_index line 0)
 
--- a line that begins a field: one byte of a name or more, and a colon
+-- what stands before a line's first colon, and after it
+abbrev pub name_of : List ℕ → List ℕ
+name_of line = take (position_or_len is_colon line) line
+
+abbrev pub value_of : List ℕ → List ℕ
+value_of line = drop (position_or_len is_colon line + 1) line
+
+-- a line that begins a field: a name of one byte or more, and a colon
 abbrev pub begins_field : List ℕ → Bool
-begins_field line =
-    let colon = position_or_len is_colon line in
-    nat_lt colon (length line) && (nat_lt 0 colon && list_all is_name_byte (take colon line))
+begins_field line = nat_lt (position_or_len is_colon line) (length line) && (nat_lt 0 (position_or_len is_colon line) && list_all is_name_byte (name_of line))
 
--- the value of a field's lines: what stands after the colon, with a newline before each line that goes on with it
-abbrev pub folded : List ℕ → List (List ℕ) → List ℕ
-folded value more = value ++ flat_map (λ line. 10 ∷ line) (filter is_continuation more)
-
--- the field of its first line, and the lines up to the next field
+-- the field that a line begins, where these lines stand between it and the next field
 abbrev pub field_of : List ℕ → List (List ℕ) → FieldValue
-field_of line more =
-    let colon = position_or_len is_colon line in
-    record { name = take colon line; value = folded (drop (colon + 1) line) more }
+field_of line more = record { name = name_of line; lines = value_of line ∷ filter is_continuation more }
 
--- the lines before the first that begins a field
+-- the lines before the next that begins a field
 abbrev pub own_lines : List (List ℕ) → List (List ℕ)
 own_lines more = take_while (λ line. not (begins_field line)) more
 
--- the fields of some lines: each line that begins a field gives it, with those before the next one that go on with it
+-- the fields of some lines: each line that begins a field gives it; a line that neither begins a field nor goes on with one
+-- is passed over
 abbrev pub fields_of : List (List ℕ) → List FieldValue
 fields_of [] = []
 fields_of (line ∷ more) = if begins_field line then field_of line (own_lines more) ∷ fields_of more else fields_of more
@@ -66,17 +64,3 @@ has_name name field = str_eq_ignore_ascii_case field.name name
 
 abbrev pub first_of : List ℕ → List FieldValue → Option FieldValue
 first_of name fields = find (has_name name) fields
-
--- the field that these whole lines spell
-abbrev pub field_of_lines : List (List ℕ) → FieldValue
-field_of_lines [] = record { name = []; value = [] }
-field_of_lines (line ∷ more) = field_of line more
-
-abbrev pub raw_field : List ℕ → FieldValue
-raw_field raw = field_of_lines (lines raw)
-
--- the fields of bytes that begin at these places, up to an end
-abbrev pub fields_at : List ℕ → List ℕ → ℕ → List FieldValue
-fields_at bytes [] end = []
-fields_at bytes (a ∷ []) end = raw_field (take (end - a) (drop a bytes)) ∷ []
-fields_at bytes (a ∷ b ∷ more) end = raw_field (take (b - a) (drop a bytes)) ∷ fields_at bytes (b ∷ more) end

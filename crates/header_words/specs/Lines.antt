@@ -1,5 +1,5 @@
 -- The lines of a header, and where the body begins (RFC 5322 §2.1).
-use Rattle.std.specs.Prelude.{ℕ, ◌+◌, ◌-◌, Bool, List, [], ◌∷◌, length, take, min, nat_lt, ◌==◌, if◌then◌else◌, take_while}
+use Rattle.std.specs.Prelude.{ℕ, ◌+◌, Bool, List, [], ◌∷◌, length, take, min, nat_lt, ◌==◌, if◌then◌else◌, take_while}
 use Rattle.std.specs.List.{slice_split, position_or_len}
 use Rattle.std.specs.Str.Lines.{lines, strip_carriage_return}
 
