@@ -3,7 +3,7 @@ ghost use Rattle.std.specs.Prelude.{◌≡◌, ◌==◌, position};
 ghost use Rattle.std.specs.List.{list_all, position_or_len};
 ghost use Rattle.std.specs.Str.Lines.{strip_carriage_return};
 ghost use Rattle.header_words.specs.Lines.{first_text, first_size};
-ghost use Rattle.header_words.specs.Fields.{is_blank, is_name_byte, is_colon, is_continuation, begins_field};
+ghost use Rattle.header_words.specs.Fields.{is_blank, is_name_byte, is_colon, is_continuation, begins_field, value_of};
 
 /// The first line without its ending, and how many bytes it takes with it.
 pub fn first_line(rest: &[u8]) -> (&[u8], usize)
@@ -38,6 +38,18 @@ pub fn colon_of(line: &[u8]) -> usize
     match place_of(b':', line) {
         Some(colon) => colon,
         None => line.len(),
+    }
+}
+
+/// What stands after a line's first colon.
+pub fn after_colon(line: &[u8]) -> &[u8]
+    ensures { result.now ≡ value_of line.now }
+{
+    let colon = colon_of(line);
+    if colon < line.len() {
+        &line[colon + 1..]
+    } else {
+        &[]
     }
 }
 

@@ -54,6 +54,13 @@ impl<'a> Field<'a> {
         Field { raw }
     }
 
+    /// The lines of the field as they are written.
+    pub(crate) fn raw(&self) -> &'a [u8]
+        ensures { raw_field result.now ≡ self.now }
+    {
+        self.raw
+    }
+
     /// The name as it is written.
     pub fn name(&self) -> &'a [u8]
         ensures { result.now ≡ self.now.name }

@@ -2,9 +2,14 @@
 #![tactic(auto)]
 
 mod bytes;
+pub mod decoding;
 pub mod header;
 pub mod reading;
 
+pub use decoding::decoded;
 pub use header::{Field, Fields};
 pub use mail_io::Memory;
 pub use reading::fields;
+
+#[cfg(test)]
+mod tests;
