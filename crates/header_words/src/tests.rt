@@ -32,7 +32,7 @@ fn reads_fields(rt: HostRuntime) -> Result<(), Fail> {
         ),
         (b" first\r\nA: 1\r\n", "A=1|14"),
         (b"A B: 1\r\n: 2\r\nC\x7f: 3\r\nD: 4", "D=4|24"),
-        (b"A: 1\r", "A=1\r|6"),
+        (b"A: 1\r", "A=1\r|5"),
     ] {
         let text = shown(alloc, message)?;
         assert_eq!(rt; text.as_str(), want);
