@@ -1,0 +1,7 @@
+pub mod Facts
+pub mod Distinct
+pub mod Reading
+pub mod Law
+pub mod Held
+pub mod Bytes
+pub mod Opening

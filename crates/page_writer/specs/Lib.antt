@@ -1,0 +1,4 @@
+pub mod Tables
+pub mod Page
+pub mod Writer
+pub mod Bytes
