@@ -5,3 +5,5 @@ pub mod Law
 pub mod Held
 pub mod Bytes
 pub mod Opening
+pub mod Nesting
+pub mod Parts

@@ -2,6 +2,7 @@
 use Rattle.std.specs.Prelude.{◌≡◌, ℕ, Bool, true, false, not, ◌&&◌, ◌==◌, if◌then◌else◌, List, [], ◌∷◌, ◌++◌, codes, IsTrue}
 use Rattle.std.specs.List.{AllByRecursion, list_all}
 use Rattle.std.specs.Char.{IsScalar}
+use Rattle.html_tokens.specs.Characters.{null, carriage_return, space, quotation_mark, ampersand, solidus, less_than, greater_than, replacement}
 use Rattle.html_tokens.specs.Token.{Attribute, Token}
 use Rattle.html_tokens.specs.Token.Token.{Start, End, Char, Comment, Doctype}
 use Rattle.html_tokens.specs.Tokenizer.{has_name, same}
@@ -12,12 +13,12 @@ use Rattle.page_writer.specs.Tables.{Name, is_element, is_void, is_text, is_attr
 -- a character of a text or of a value between `"`; U+0000, which no page can hold, is U+FFFD
 abbrev pub spell_char : ℕ → List ℕ
 spell_char c =
-    if c == 60 then codes "&lt;"
-    else (if c == 62 then codes "&gt;"
-    else (if c == 38 then codes "&amp;"
-    else (if c == 34 then codes "&quot;"
-    else (if c == 13 then codes "&#13;"
-    else (if c == 0 then 0xFFFD ∷ [] else c ∷ [])))))
+    if c == less_than then codes "&lt;"
+    else (if c == greater_than then codes "&gt;"
+    else (if c == ampersand then codes "&amp;"
+    else (if c == quotation_mark then codes "&quot;"
+    else (if c == carriage_return then codes "&#13;"
+    else (if c == null then replacement ∷ [] else c ∷ [])))))
 
 abbrev pub spell_chars : List ℕ → List ℕ
 spell_chars [] = []
@@ -25,7 +26,7 @@ spell_chars (c ∷ cs) = spell_char c ++ spell_chars cs
 
 -- ` name="value"`
 abbrev pub spell_attribute : Attribute → List ℕ
-spell_attribute a = 32 ∷ a.name ++ codes "=\"" ++ spell_chars a.value ++ 34 ∷ []
+spell_attribute a = space ∷ a.name ++ codes "=\"" ++ spell_chars a.value ++ quotation_mark ∷ []
 
 abbrev pub spell_attributes : List Attribute → List ℕ
 spell_attributes [] = []
@@ -33,8 +34,8 @@ spell_attributes (a ∷ rest) = spell_attribute a ++ spell_attributes rest
 
 -- no page has a comment
 abbrev pub spell_token : Token → List ℕ
-spell_token (Start name attributes) = 60 ∷ name ++ spell_attributes attributes ++ 62 ∷ []
-spell_token (End name) = 60 ∷ 47 ∷ name ++ 62 ∷ []
+spell_token (Start name attributes) = less_than ∷ name ++ spell_attributes attributes ++ greater_than ∷ []
+spell_token (End name) = less_than ∷ solidus ∷ name ++ greater_than ∷ []
 spell_token (Char c) = spell_char c
 spell_token (Comment text) = []
 spell_token Doctype = codes "<!DOCTYPE html>"
@@ -47,7 +48,7 @@ spell (t ∷ ts) = spell_token t ++ spell ts
 
 -- a character other than U+0000
 abbrev pub IsShown : ℕ → Type 0
-IsShown c = IsTrue (not (c == 0)) × IsScalar c
+IsShown c = IsTrue (not (c == null)) × IsScalar c
 
 -- the attributes have names of the lists
 abbrev pub are_attributes : List Attribute → Bool

@@ -5,16 +5,20 @@
 //! text and no attribute value, whoever chose it, can become a tag.
 #![tactic(auto)]
 
+pub mod laws;
 mod spelling;
+#[cfg(test)]
+mod tests;
 
-ghost use Rattle.std.specs.Prelude.{◌≡◌, ℕ, ◌<◌, List, [], ◌∷◌, length, chars, encode_utf8_all, OnOk, OnErr};
+ghost use Rattle.std.specs.Prelude.{◌≡◌, ℕ, ◌<◌, List, [], ◌∷◌, length, chars, encode_utf8_all, OnOk, OnErr, IsTrue};
 ghost use Rattle.html_tokens.specs.Token.Token.{Start, End, Doctype};
 ghost use Rattle.html_tokens.specs.Tokenizer.{tokens_of_bytes};
-ghost use Rattle.page_writer.specs.Page.{spell, takes_tags, MayStart, Leads};
+ghost use Rattle.page_writer.specs.Page.{spell, takes_tags, MayStart};
 ghost use Rattle.page_writer.specs.Writer.{added, with_text, shown_values, innermost};
-ghost use Rattle.std.specs.Prelude.{IsTrue};
+ghost use Rattle.page_writer.specs.Nested.{Nested};
 
 use html_tokens::Attributes;
+pub use laws::allowed_pages_load;
 pub use std::alloc::AllocError as Memory;
 use std::alloc::Global;
 use std::marker::Model;
@@ -125,7 +129,7 @@ impl PageOut {
         requires { self.opened ≡ [] }
         ensures spelled { result.items ≡ encode_utf8_all (spell self.written) }
         ensures reads { tokens_of_bytes result.items ≡ self.written }
-        ensures led { Leads [] self.written [] }
+        ensures nested { Nested self.written }
     {
         let PageOut { bytes, inside } = self;
         bytes
