@@ -7,3 +7,5 @@ pub mod Bytes
 pub mod Opening
 pub mod Nesting
 pub mod Parts
+pub mod Mail
+mod Examples

@@ -1,12 +1,12 @@
 -- The pages that may be shown to a member, and what they load.
-use Rattle.std.specs.Prelude.{◌≡◌, ℕ, Bool, ◌&&◌, ◌||◌, if◌then◌else◌, ◌⊎◌, List, [], ◌∷◌, ◌++◌, codes, IsTrue}
-use Rattle.std.specs.List.{flat_map, AllByRecursion}
+use Rattle.std.specs.Prelude.{◌≡◌, ◌≤◌, ℕ, Bool, ◌&&◌, ◌||◌, if◌then◌else◌, ◌⊎◌, List, [], ◌∷◌, ◌++◌, codes, IsTrue}
+use Rattle.std.specs.List.{list_all, flat_map, count_by, AllByRecursion}
 use Rattle.html_tokens.specs.Token.{Attribute, Token}
 use Rattle.html_tokens.specs.Token.Token.{Start, End}
 use Rattle.html_tokens.specs.Tokenizer.{same}
 use Rattle.page_writer.specs.Tables.{Name}
 use Rattle.page_writer.specs.Values.{is_source}
-use Rattle.page_writer.specs.Message.{is_message}
+use Rattle.page_writer.specs.Message.{is_message_token, is_message}
 use Rattle.page_writer.specs.Frame.{is_frame_token, is_frame, opens_mail, style_sheet}
 use Rattle.page_writer.specs.Nested.{Nested}
 
@@ -51,3 +51,14 @@ abbrev pub AllowedPagesLoad : Type 0
 AllowedPagesLoad =
     (page : List Token) (images : Bool) (own : List ℕ → Bool) → IsAllowed page images own
     → AllByRecursion (λ address. IsTrue (may_load images own address)) (loads page)
+
+-- each of its tokens is one of the frame or one of a message
+abbrev pub AllowedPagesAreKnown : Type 0
+AllowedPagesAreKnown =
+    (page : List Token) (images : Bool) (own : List ℕ → Bool) → IsAllowed page images own
+    → IsTrue (list_all (λ t. is_frame_token t || is_message_token images own t) page)
+
+-- and at most one opens a message
+abbrev pub AllowedPagesHaveOneMail : Type 0
+AllowedPagesHaveOneMail =
+    (page : List Token) (images : Bool) (own : List ℕ → Bool) → IsAllowed page images own → count_by opens_mail page ≤ 1
