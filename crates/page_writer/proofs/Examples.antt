@@ -3,7 +3,7 @@ use Rattle.std.proofs.Common.{◌≡◌, ℕ, Bool, true, false, inr, List, [], 
 use Rattle.html_tokens.specs.Token.{Attribute, Token}
 use Rattle.html_tokens.specs.Token.Token.{Start, End, Char, Doctype}
 use Rattle.html_tokens.specs.Tokenizer.{is_among, chars}
-use Rattle.page_writer.specs.Tables.{message_elements, frame_elements, message_voids, frame_voids, is_message_element, is_element, is_void, common_attributes, attribute_rows, is_listed_attribute, frame_attributes, is_frame_attribute, kind_rows}
+use Rattle.page_writer.specs.Tables.{message_elements, frame_elements, message_voids, frame_voids, is_message_element, is_element, is_void, common_attributes, attribute_rows, is_listed_attribute, frame_attributes, is_frame_attribute, kind_of, kind_rows}
 use Rattle.page_writer.specs.Values.{is_number, is_word, is_remote, is_link, is_source, fits, fits_attribute}
 use Rattle.page_writer.specs.Page.{spell}
 use Rattle.page_writer.specs.Writing.{plain, with}
@@ -73,22 +73,22 @@ link : List ℕ → Token
 link address = Start (codes "a") (pair (codes "href") address ∷ pair (codes "rel") (codes "noopener noreferrer") ∷ pair (codes "target") (codes "_blank") ∷ [])
 
 message_tokens : map (is_message_token false own) (link (codes "https://e.example/") ∷ with (codes "img") (codes "src") (codes "/part/0/0/2.2?f=") ∷ with (codes "td") (codes "width") (codes "50%") ∷ End (codes "td") ∷ []) ≡ yes
-unfolding is_message_token link yes message_elements is_message_element is_listed_attribute common_attributes attribute_rows kind_rows fits_attribute fits is_link is_remote is_source is_number is_void message_voids frame_voids
+unfolding is_message_token link yes message_elements is_message_element is_listed_attribute common_attributes attribute_rows kind_of kind_rows fits_attribute fits is_link is_remote is_source is_number is_void message_voids frame_voids
 message_tokens = refl
 
 -- scripts, handlers, links that don't open apart, and marks of links without one
 not_message_tokens : map (is_message_token false own) (plain (codes "script") ∷ with (codes "p") (codes "onclick") (codes "x") ∷ with (codes "a") (codes "href") (codes "https://e.example/") ∷ with (codes "a") (codes "target") (codes "_blank") ∷ []) ≡ no
-unfolding is_message_token no message_elements is_message_element is_listed_attribute common_attributes attribute_rows kind_rows fits_attribute fits is_link is_remote
+unfolding is_message_token no message_elements is_message_element is_listed_attribute common_attributes attribute_rows kind_of kind_rows fits_attribute fits is_link is_remote
 not_message_tokens = refl
 
 -- an attribute of another element, a style, another document type, the end of what has no end
 nor_these : map (is_message_token true own) (with (codes "p") (codes "width") (codes "5") ∷ with (codes "p") (codes "style") (codes "color: red") ∷ Doctype ∷ End (codes "br") ∷ []) ≡ no
-unfolding is_message_token no message_elements is_message_element is_listed_attribute common_attributes attribute_rows kind_rows fits_attribute fits is_void message_voids frame_voids
+unfolding is_message_token no message_elements is_message_element is_listed_attribute common_attributes attribute_rows kind_of kind_rows fits_attribute fits is_void message_voids frame_voids
 nor_these = refl
 
 -- a picture of the web, where pictures weren't asked for and where they were
 pictures : map (λ images. is_message_token images own (with (codes "img") (codes "src") (codes "https://e.example/o"))) (false ∷ true ∷ []) ≡ false ∷ true ∷ []
-unfolding is_message_token message_elements is_message_element is_listed_attribute common_attributes attribute_rows kind_rows fits_attribute fits is_source is_remote
+unfolding is_message_token message_elements is_message_element is_listed_attribute common_attributes attribute_rows kind_of kind_rows fits_attribute fits is_source is_remote
 pictures = refl
 
 -- ---- tokens of a frame
@@ -133,7 +133,7 @@ page : List Token
 page = before ++ (mail ∷ inside ++ (End (codes "div") ∷ behind))
 
 page_is_allowed : IsAllowed page false own
-unfolding page before inside behind mail is_frame_token opens_mail is_element message_elements frame_elements is_frame_attribute frame_attributes is_message_token is_message_element is_listed_attribute common_attributes attribute_rows kind_rows fits_attribute fits is_source is_void message_voids frame_voids open_after
+unfolding page before inside behind mail is_frame_token opens_mail is_element message_elements frame_elements is_frame_attribute frame_attributes is_message_token is_message_element is_listed_attribute common_attributes attribute_rows kind_of kind_rows fits_attribute fits is_source is_void message_voids frame_voids open_after
 page_is_allowed = inr (record { before = before; mail = mail; message = inside; after = behind; is = refl; before_is_frame = refl; opens = refl; is_a_message = refl; is_nested = refl; after_is_frame = refl })
 
 page_loads : loads page ≡ codes "/part/0/0/2.2?f=" ∷ []

@@ -6,7 +6,7 @@ use Rattle.std.specs.List.{list_all, AllByRecursion}
 use Rattle.html_tokens.specs.Token.{Attribute, Token}
 use Rattle.html_tokens.specs.Token.Token.{Start, End, Char, Comment, Doctype}
 use Rattle.html_tokens.specs.Tokenizer.{same, shown}
-use Rattle.page_writer.specs.Tables.{Name, is_message_element, message_elements, is_frame_attribute, frame_attributes, is_listed_attribute, kind_rows}
+use Rattle.page_writer.specs.Tables.{Name, is_message_element, message_elements, is_frame_attribute, frame_attributes, is_listed_attribute, kind_of, kind_rows}
 use Rattle.page_writer.specs.Values.{is_source, fits_attribute, fits}
 use Rattle.page_writer.specs.Writer.{shown_tokens}
 use Rattle.page_writer.specs.Message.{is_message_token, is_message, is_message_attribute, is_marked}
@@ -130,7 +130,7 @@ frame_loads images own (t ∷ ts) h =
 
 -- a message loads its pictures alone
 source_fits : (images : Bool) (own : List ℕ → Bool) (element : Name) (name value : List ℕ) → codes "src" ≡ name → is_message_attribute images own element (record { name = name; value = value }) ≡ true → is_source images own value ≡ true
-unfolding fits_attribute kind_rows fits
+unfolding fits_attribute kind_of kind_rows fits
 source_fits images own element name value e h =
     let at_source = subst (λ (n : List ℕ). is_message_attribute images own element (record { name = n; value = value }) ≡ true) (sym e) h in
     and_or_false (is_listed_attribute element (codes "src")) (is_source images own value) at_source

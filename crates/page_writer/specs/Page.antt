@@ -1,11 +1,11 @@
 -- How a page is spelled, and which lists of tokens a page may have.
-use Rattle.std.specs.Prelude.{◌≡◌, ℕ, Bool, true, false, not, ◌&&◌, ◌==◌, if◌then◌else◌, List, [], ◌∷◌, ◌++◌, codes, IsTrue}
+use Rattle.std.specs.Prelude.{◌≡◌, ℕ, Bool, true, false, not, ◌&&◌, ◌==◌, if◌then◌else◌, List, [], ◌∷◌, ◌++◌, codes, encode_utf8_all, IsTrue}
 use Rattle.std.specs.List.{AllByRecursion, list_all}
 use Rattle.std.specs.Char.{IsScalar}
 use Rattle.html_tokens.specs.Characters.{null, carriage_return, space, quotation_mark, ampersand, solidus, less_than, greater_than, replacement}
 use Rattle.html_tokens.specs.Token.{Attribute, Token}
 use Rattle.html_tokens.specs.Token.Token.{Start, End, Char, Comment, Doctype}
-use Rattle.html_tokens.specs.Tokenizer.{has_name, same}
+use Rattle.html_tokens.specs.Tokenizer.{has_name, same, tokens_of_bytes}
 use Rattle.page_writer.specs.Tables.{Name, is_element, is_void, is_text, is_attribute_name}
 
 -- ---- spelling (HTML Standard, 13.1 and 13.3)
@@ -96,3 +96,7 @@ inside_after inside t = inside
 unfoldable pub Leads : List Name → List Token → List Name → Type 0
 Leads inside [] after = inside ≡ after
 Leads inside (t ∷ ts) after = MayCome inside t × Leads (inside_after inside t) ts after
+
+-- a page of such tokens reads as these tokens
+abbrev pub PagesReadAsWritten : Type 0
+PagesReadAsWritten = (page : List Token) → Leads [] page [] → tokens_of_bytes (encode_utf8_all (spell page)) ≡ page

@@ -1,5 +1,5 @@
 -- The elements and attributes of pages. Each list stands here and nowhere else, a row a line.
-use Rattle.std.specs.Prelude.{ℕ, Bool, true, false, ◌&&◌, ◌||◌, ◌==◌, List, [], ◌∷◌, ◌++◌, codes}
+use Rattle.std.specs.Prelude.{ℕ, Bool, true, false, ◌&&◌, ◌||◌, ◌==◌, if◌then◌else◌, Option, Some, None, List, [], ◌∷◌, ◌++◌, codes}
 use Rattle.std.specs.List.{list_any, flat_map}
 use Rattle.html_tokens.specs.Tokenizer.{is_among}
 use Rattle.page_writer.specs.declared.Kind.{Kind}
@@ -133,3 +133,10 @@ kind_rows =
     ∷ kind_row Source (codes "src")
     ∷ kind_row Style (codes "style")
     ∷ []
+
+abbrev pub kind_in : List KindRow → Name → Option Kind
+kind_in [] name = None
+kind_in (row ∷ rows) name = if is_among row.attributes name then Some row.kind else kind_in rows name
+
+unfoldable pub kind_of : Name → Option Kind
+kind_of name = kind_in kind_rows name

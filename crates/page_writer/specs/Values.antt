@@ -1,10 +1,9 @@
 -- The values that the attributes of a message may have.
-use Rattle.std.specs.Prelude.{ℕ, zero, suc, Bool, true, false, not, ◌&&◌, ◌||◌, ◌==◌, nat_le, if◌then◌else◌, List, [], ◌∷◌, length, codes}
+use Rattle.std.specs.Prelude.{ℕ, zero, suc, Bool, true, false, not, ◌&&◌, ◌||◌, ◌==◌, nat_le, if◌then◌else◌, Option, Some, None, List, [], ◌∷◌, length, codes}
 use Rattle.std.specs.List.{list_all}
 use Rattle.html_tokens.specs.Characters.{is_between, is_digit, is_letter}
 use Rattle.html_tokens.specs.References.{begins}
-use Rattle.html_tokens.specs.Tokenizer.{is_among}
-use Rattle.page_writer.specs.Tables.{Name, KindRow, kind_rows}
+use Rattle.page_writer.specs.Tables.{Name, kind_of}
 use Rattle.page_writer.specs.declared.Kind.{Kind}
 use Rattle.page_writer.specs.declared.Kind.TheVariants.{Number, Word, Flag, Text, Link, Source, Style}
 
@@ -67,10 +66,10 @@ fits images own Link value = is_link value
 fits images own Source value = is_source images own value
 fits images own Style value = false
 
--- the value fits the kind of the attribute in its row
-abbrev pub fits_in : List KindRow → Bool → (List ℕ → Bool) → Name → List ℕ → Bool
-fits_in [] images own name value = false
-fits_in (row ∷ rows) images own name value = if is_among row.attributes name then fits images own row.kind value else fits_in rows images own name value
+abbrev pub fits_kind : Bool → (List ℕ → Bool) → Option Kind → List ℕ → Bool
+fits_kind images own None value = false
+fits_kind images own (Some kind) value = fits images own kind value
 
+-- a value of the attribute's kind
 unfoldable pub fits_attribute : Bool → (List ℕ → Bool) → Name → List ℕ → Bool
-fits_attribute images own name value = fits_in kind_rows images own name value
+fits_attribute images own name value = fits_kind images own (kind_of name) value

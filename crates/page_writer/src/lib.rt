@@ -18,7 +18,9 @@ ghost use Rattle.page_writer.specs.Writer.{added, with_text, shown_values, inner
 ghost use Rattle.page_writer.specs.Nested.{Nested};
 
 use html_tokens::Attributes;
-pub use laws::{allowed_pages_are_known, allowed_pages_have_one_mail, allowed_pages_load};
+pub use laws::{
+    allowed_pages_are_known, allowed_pages_have_one_mail, allowed_pages_load, pages_read_as_written,
+};
 pub use std::alloc::AllocError as Memory;
 use std::alloc::Global;
 use std::marker::Model;
