@@ -1,0 +1,7 @@
+use Rattle.std.proofs.Common.{◌≡◌, ◌<◌, sym, ◌∙◌, encode_utf8_all, length}
+use Rattle.html_tokens.specs.Token.{name_at}
+use Rattle.html_tokens.proofs.Pairs.{name_at-map}
+use Rattle.html_tokens.proofs.attributes.Attributes.name.Goals as goal
+
+pub returns : goal.returns
+returns c = rw (← c.self.view_is) (c.as_str.ensures.value ∙ sym (name_at-map c.self.inside.pairs.items c.args.index c.index.result.now (rw c.self.view_is c.requires) c.index.ensures))

@@ -1,0 +1,12 @@
+//! What an HTML text reads as: the tokens of the HTML Standard's tokenization chapter (13.2.5).
+//!
+//! The definition stands in `specs/`: `Token` and `Tokenizer` first, then `States` and `Rows`, `References` and `Names`. It is
+//! made to be read beside the Standard; `docs/TOKENIZER.md` of the repository leads through it.
+#![tactic(auto)]
+
+pub mod attributes;
+pub mod laws;
+
+pub use attributes::Attributes;
+pub use laws::three_looks_suffice;
+pub use std::alloc::AllocError as Memory;

@@ -1,0 +1,11 @@
+pub mod Facts
+pub mod Distinct
+pub mod Reading
+pub mod Law
+pub mod Held
+pub mod Bytes
+pub mod Opening
+pub mod Nesting
+pub mod Parts
+pub mod Mail
+mod Examples

@@ -1,0 +1,46 @@
+-- The tokens that the frame of a page may have: all that does not come from a message.
+use Rattle.std.specs.Prelude.{ℕ, Bool, true, false, not, ◌&&◌, ◌||◌, ◌==◌, if◌then◌else◌, List, [], ◌∷◌, codes}
+use Rattle.std.specs.List.{list_all, list_any}
+use Rattle.html_tokens.specs.Token.{Attribute, Token}
+use Rattle.html_tokens.specs.Token.Token.{Start, End, Char, Comment, Doctype}
+use Rattle.html_tokens.specs.Tokenizer.{same, is_among}
+use Rattle.page_writer.specs.Tables.{Name, words, is_element, is_frame_attribute}
+
+-- An address on the site itself: `/`, and then neither `/` nor `\`, which would begin the name of another site, nor a TAB, LF
+-- or CR, which an address loses when it is read (URL Standard, 4.4).
+abbrev pub is_local : List ℕ → Bool
+is_local [] = false
+is_local (c ∷ []) = c == 47
+is_local (c ∷ d ∷ cs) = c == 47 && not (d == 47 || d == 92 || d == 9 || d == 10 || d == 13)
+
+abbrev pub style_sheet : List ℕ
+style_sheet = codes "/site.css"
+
+-- what a frame loads is its style sheet, and where it leads and sends is the site itself
+abbrev pub fits_frame : Name → Attribute → Bool
+fits_frame element a =
+    if same (codes "href") a.name && same (codes "link") element then same style_sheet a.value
+    else (if same (codes "href") a.name || same (codes "action") a.name then is_local a.value else true)
+
+abbrev pub is_frame_pair : Name → Attribute → Bool
+is_frame_pair element a = is_frame_attribute a.name && fits_frame element a
+
+unfoldable pub is_frame_token : Token → Bool
+is_frame_token (Start name attributes) = is_element name && list_all (is_frame_pair name) attributes
+is_frame_token (End name) = is_element name
+is_frame_token (Char c) = true
+is_frame_token (Comment text) = false
+is_frame_token Doctype = true
+
+-- a class of the element
+abbrev pub is_of_class : List ℕ → Attribute → Bool
+is_of_class class a = same (codes "class") a.name && is_among (words a.value) class
+
+-- a `div` of the class `mail`, in which a message stands
+unfoldable pub opens_mail : Token → Bool
+opens_mail (Start name attributes) = same (codes "div") name && list_any (is_of_class (codes "mail")) attributes
+opens_mail _ = false
+
+-- a frame in which no message stands
+abbrev pub is_frame : List Token → Bool
+is_frame tokens = list_all (λ t. is_frame_token t && not (opens_mail t)) tokens

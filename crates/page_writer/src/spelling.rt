@@ -1,0 +1,199 @@
+//! How the parts of a page are written (HTML Standard, 13.1.2 and 13.3).
+//!
+//! The functions `push_..` append to a buffer, and may leave a part behind where memory is refused; the functions `add_..` and
+//! `open_element` then take it back.
+
+ghost use Rattle.std.specs.Prelude.{◌≡◌, ℕ, ◌<◌, ◌≤◌, List, [], ◌∷◌, ◌++◌, length, take, chars, encode_utf8_all, string_bytes, OnOk, OnErr, is_ok, if◌then◌else◌, IsTrue};
+ghost use Rattle.page_writer.specs.Writer.{names_of};
+ghost use Rattle.html_tokens.specs.Token.Token.{Start, End};
+ghost use Rattle.page_writer.specs.Page.{spell_chars, spell_attributes, spell_token};
+ghost use Rattle.page_writer.specs.Tables.{is_void as is_void_name};
+ghost use Rattle.page_writer.specs.Bytes.{spell_byte, spell_bytes, attribute_bytes, Extends, AreTexts};
+
+use crate::Memory;
+use html_tokens::Attributes;
+use memchr::memchr3;
+use std::alloc::Global;
+
+/// So many bytes of a text are looked at together for one that may not stand for itself.
+const CHUNK: usize = 64;
+
+/// A text makes room for itself and for so many bytes after it, so that a long one is copied once.
+const ROOM: usize = 4096;
+
+/// Whether an element of this name has no content and no end tag.
+#[tactic(auto, unfolding(crate::specs::Tables::is_void, crate::specs::Tables::message_voids, crate::specs::Tables::frame_voids))]
+pub fn is_void(name: &str) -> bool
+    ensures { result ≡ is_void_name name.now }
+{
+    name == "br"
+        || name == "col"
+        || name == "hr"
+        || name == "img"
+        || name == "wbr"
+        || name == "meta"
+        || name == "link"
+        || name == "input"
+}
+
+fn push(out: &mut Vec<u8>, bytes: &[u8]) -> Result<(), Memory>
+    ensures ok { OnOk result (out.new.items ≡ out.old.items ++ bytes.now) }
+    ensures extends { Extends out.old.items out.new.items }
+{
+    out.extend_from_slice(bytes)
+}
+
+fn push_byte(out: &mut Vec<u8>, byte: u8) -> Result<(), Memory>
+    ensures ok { OnOk result (out.new.items ≡ out.old.items ++ spell_byte byte) }
+    ensures err { OnErr result (out.new.items ≡ out.old.items) }
+{
+    match byte {
+        b'<' => out.extend_from_slice(b"&lt;"),
+        b'>' => out.extend_from_slice(b"&gt;"),
+        b'&' => out.extend_from_slice(b"&amp;"),
+        b'"' => out.extend_from_slice(b"&quot;"),
+        b'\r' => out.extend_from_slice(b"&#13;"),
+        0 => out.extend_from_slice(b"\xEF\xBF\xBD"),
+        _ => {
+            out.push(byte)?;
+            Ok(())
+        }
+    }
+}
+
+fn push_each(out: &mut Vec<u8>, bytes: &[u8]) -> Result<(), Memory>
+    ensures ok { OnOk result (out.new.items ≡ out.old.items ++ spell_bytes bytes.now) }
+    ensures extends { Extends out.old.items out.new.items }
+{
+    for byte in bytes {
+        push_byte(out, *byte)?;
+    }
+    Ok(())
+}
+
+/// Whether each of the bytes stands for itself.
+fn is_plain(bytes: &[u8]) -> bool
+    ensures { IsTrue result → spell_bytes bytes.now ≡ bytes.now }
+{
+    memchr3(b'<', b'>', b'&', bytes).is_none() && memchr3(b'"', b'\r', 0, bytes).is_none()
+}
+
+fn push_chunk(out: &mut Vec<u8>, bytes: &[u8]) -> Result<(), Memory>
+    ensures ok { OnOk result (out.new.items ≡ out.old.items ++ spell_bytes bytes.now) }
+    ensures extends { Extends out.old.items out.new.items }
+{
+    if is_plain(bytes) {
+        push(out, bytes)
+    } else {
+        push_each(out, bytes)
+    }
+}
+
+fn push_text(out: &mut Vec<u8>, text: &str) -> Result<(), Memory>
+    ensures ok { OnOk result (out.new.items ≡ out.old.items ++ encode_utf8_all (spell_chars (chars text.now))) }
+    ensures extends { Extends out.old.items out.new.items }
+{
+    for chunk in text.as_bytes().chunks(CHUNK) {
+        push_chunk(out, chunk)?;
+    }
+    Ok(())
+}
+
+fn push_attribute(out: &mut Vec<u8>, name: &str, value: &str) -> Result<(), Memory>
+    ensures ok { OnOk result (out.new.items ≡ out.old.items ++ attribute_bytes name.now (chars value.now)) }
+    ensures extends { Extends out.old.items out.new.items }
+{
+    push(out, b" ")?;
+    push(out, name.as_bytes())?;
+    push(out, b"=\"")?;
+    push_text(out, value)?;
+    push(out, b"\"")
+}
+
+fn push_attributes(out: &mut Vec<u8>, attributes: &Attributes) -> Result<(), Memory>
+    ensures ok { OnOk result (out.new.items ≡ out.old.items ++ encode_utf8_all (spell_attributes attributes.now)) }
+    ensures texts { OnOk result (AreTexts attributes.now) }
+    ensures extends { Extends out.old.items out.new.items }
+{
+    for i in 0..attributes.len() {
+        push_attribute(out, attributes.name(i), attributes.value(i))?;
+    }
+    Ok(())
+}
+
+fn push_start(out: &mut Vec<u8>, name: &str, attributes: &Attributes) -> Result<(), Memory>
+    ensures ok { OnOk result (out.new.items ≡ out.old.items ++ encode_utf8_all (spell_token (Start (chars name.now) attributes.now))) }
+    ensures texts { OnOk result (AreTexts attributes.now) }
+    ensures extends { Extends out.old.items out.new.items }
+{
+    push(out, b"<")?;
+    push(out, name.as_bytes())?;
+    push_attributes(out, attributes)?;
+    push(out, b">")
+}
+
+fn push_end(out: &mut Vec<u8>, name: &str) -> Result<(), Memory>
+    ensures ok { OnOk result (out.new.items ≡ out.old.items ++ encode_utf8_all (spell_token (End (chars name.now)))) }
+    ensures extends { Extends out.old.items out.new.items }
+{
+    push(out, b"</")?;
+    push(out, name.as_bytes())?;
+    push(out, b">")
+}
+
+/// Takes back what stands behind the first `before` bytes, where the writing was refused memory.
+fn settle(out: &mut Vec<u8>, before: usize, written: Result<(), Memory>) -> Result<(), Memory>
+    ensures same { result ≡ written }
+    ensures items { out.new.items ≡ (if is_ok written then out.old.items else take before out.old.items) }
+{
+    if written.is_err() {
+        out.truncate(before);
+    }
+    written
+}
+
+pub fn add_text(out: &mut Vec<u8>, text: &str) -> Result<(), Memory>
+    ensures { out.new.items ≡ (if is_ok result then out.old.items ++ encode_utf8_all (spell_chars (chars text.now)) else out.old.items) }
+{
+    out.reserve(text.len() + ROOM)?;
+    let before = out.len();
+    let written = push_text(out, text);
+    settle(out, before, written)
+}
+
+pub fn add_start(out: &mut Vec<u8>, name: &str, attributes: &Attributes) -> Result<(), Memory>
+    ensures items { out.new.items ≡ (if is_ok result then out.old.items ++ encode_utf8_all (spell_token (Start (chars name.now) attributes.now)) else out.old.items) }
+    ensures texts { OnOk result (AreTexts attributes.now) }
+{
+    let before = out.len();
+    let written = push_start(out, name, attributes);
+    settle(out, before, written)
+}
+
+pub fn add_end(out: &mut Vec<u8>, name: &str) -> Result<(), Memory>
+    ensures { out.new.items ≡ (if is_ok result then out.old.items ++ encode_utf8_all (spell_token (End (chars name.now))) else out.old.items) }
+{
+    let before = out.len();
+    let written = push_end(out, name);
+    settle(out, before, written)
+}
+
+/// Writes a start tag, and puts the element's name behind those of the open ones.
+pub fn open_element(
+    alloc: Global,
+    out: &mut Vec<u8>,
+    inside: &mut Vec<String>,
+    name: &str,
+    attributes: &Attributes,
+) -> Result<(), Memory>
+    ensures items { out.new.items ≡ (if is_ok result then out.old.items ++ encode_utf8_all (spell_token (Start (chars name.now) attributes.now)) else out.old.items) }
+    ensures names { names_of inside.new.items ≡ (if is_ok result then chars name.now ∷ names_of inside.old.items else names_of inside.old.items) }
+    ensures texts { OnOk result (AreTexts attributes.now) }
+{
+    inside.push(String::from_str(alloc, name)?)?;
+    let written = add_start(out, name, attributes);
+    if written.is_err() {
+        let _ = inside.pop();
+    }
+    written
+}
