@@ -1,0 +1,80 @@
+//! The text of a plain message.
+ghost use Rattle.std.specs.Prelude.{◌≡◌, ◌<◌, ◌≤◌, false, length, IfOk, OnOk, IfSome, OnSome, IfNone, string_bytes};
+ghost use Rattle.std.specs.List.{before_first, after_first, position_or_len};
+ghost use Rattle.webmail.specs.Text.{is_return, line_feeds, text_of, without_line_feed};
+ghost use Rattle.webmail.specs.ShowPage.{with_tokens, text as text_tokens};
+
+use memchr::memchr;
+use page_writer::{Memory, PageOut};
+use std::alloc::Global;
+
+/// Writes a body as a text: its bytes read as UTF-8 lossily, CR LF and lone CR as LF.
+pub fn write_body(alloc: Global, out: &mut PageOut, body: &[u8]) -> Result<(), Memory>
+    ensures { OnOk result (out.new ≡ with_tokens out.old (text_tokens (text_of body.now)) out.old.opened) }
+{
+    // valid text, as nearly all mail has it, needs no copy
+    match simdutf8::compat::from_utf8(body) {
+        Ok(text) => write_lines(alloc, out, text),
+        Err(_) => write_lossily(alloc, out, body),
+    }
+}
+
+#[tactic(auto, unfolding(crate::specs::Text::text_of))]
+fn write_lossily(alloc: Global, out: &mut PageOut, body: &[u8]) -> Result<(), Memory>
+    ensures { OnOk result (out.new ≡ with_tokens out.old (text_tokens (text_of body.now)) out.old.opened) }
+{
+    let text = String::from_utf8_lossy(alloc, body)?;
+    write_lines(alloc, out, &text)
+}
+
+/// Writes a text with CR LF and lone CR as LF.
+fn write_lines(alloc: Global, out: &mut PageOut, text: &str) -> Result<(), Memory>
+    ensures { OnOk result (out.new ≡ with_tokens out.old (text_tokens (line_feeds text.now)) out.old.opened) }
+{
+    if has_return(text) {
+        let lines = with_line_feeds(alloc, text)?;
+        out.chars(&lines)
+    } else {
+        out.chars(text)
+    }
+}
+
+fn has_return(text: &str) -> bool
+    ensures { result ≡ false → length text.now ≤ position_or_len is_return text.now }
+{
+    memchr(b'\r', text.as_bytes()).is_some()
+}
+
+/// The text with CR LF and lone CR as LF.
+fn with_line_feeds(alloc: Global, text: &str) -> Result<String, Memory>
+    ensures { IfOk result (λ lines. string_bytes lines ≡ line_feeds text.now) }
+{
+    let mut lines = String::new(alloc);
+    let mut rest = text;
+    while let Some((line, after)) = cut(rest) {
+        lines.push_str(line)?;
+        lines.push('\n')?;
+        rest = without_first_line_feed(after);
+    }
+    lines.push_str(rest)?;
+    Ok(lines)
+}
+
+/// What stands before the first CR, and after it.
+fn cut(text: &str) -> Option<(&str, &str)>
+    ensures line { IfSome result (λ parts. parts.0.now ≡ before_first is_return text.now) }
+    ensures after { IfSome result (λ parts. parts.1.now ≡ after_first is_return text.now) }
+    ensures found { OnSome result (position_or_len is_return text.now < length text.now) }
+    ensures none { IfNone result (position_or_len is_return text.now ≡ length text.now) }
+{
+    text.split_once('\r')
+}
+
+fn without_first_line_feed(text: &str) -> &str
+    ensures { result.now ≡ without_line_feed text.now }
+{
+    match text.strip_prefix('\n') {
+        Some(rest) => rest,
+        None => text,
+    }
+}
