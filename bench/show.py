@@ -1,0 +1,93 @@
+#!/usr/bin/env python3
+"""Times `webmail show` on messages of 2.6 and 26 MB, plain and hostile, beside Python's own decode, escape and encode.
+
+Run by hand after `tools/show --build`. Prints processor seconds (user and system), peak memory for each byte read, and the
+ratios that matter. Exits with 1 where a bound is passed.
+"""
+import html, os, resource, subprocess, sys, tempfile, time
+
+TOP = os.path.dirname(os.path.dirname(os.path.abspath(__file__)))
+PROGRAM = os.path.join(TOP, "crates", "webmail", "out", "webmail")
+LARGE = 26_214_400
+SMALL = LARGE // 10
+HEAD = b"Subject: bench\r\n\r\n"
+
+
+def filled(head, line, size, tail=b""):
+    room = size - len(head) - len(tail)
+    return head + (line * (room // len(line) + 1))[:room] + tail
+
+
+def shapes(size):
+    text = b"The quick brown fox jumps over the lazy dog, and over the dog again it jumps\r\n"
+    return {
+        "plain text": filled(HEAD, text, size),
+        "less-than signs": filled(HEAD, b"<", size),
+        "header lines": filled(b"", b"X-Field: of a header\r\n", size - 2) + b"\r\n",
+        "short header lines": filled(b"", b"a:b\n", size - 1) + b"\n",
+        "lines that are no field": filled(b"", b"no field\r\n", size - 2) + b"\r\n",
+        "one folded field": filled(b"Subject: x\r\n", b" and on\r\n", size - 2) + b"\r\n",
+        "carriage returns": filled(HEAD, b"\r", size),
+        "bytes that are no UTF-8": filled(HEAD, b"\xff", size),
+    }
+
+
+def measure(command, source):
+    """Processor seconds and peak kilobytes of the best of three runs."""
+    best = None
+    for _ in range(3):
+        with open(source, "rb") as given:
+            child = subprocess.Popen(command, stdin=given, stdout=subprocess.DEVNULL)
+            _, status, usage = os.wait4(child.pid, 0)
+        if status != 0:
+            sys.exit(f"{command} ended with status {status}")
+        seconds = usage.ru_utime + usage.ru_stime
+        if best is None or seconds < best[0]:
+            best = (seconds, usage.ru_maxrss)
+    return best
+
+
+PYTHON = (
+    "import html, sys\n"
+    "body = sys.stdin.buffer.read()\n"
+    "sys.stdout.buffer.write(html.escape(body.decode('utf-8', 'replace')).encode())\n"
+)
+
+
+def main():
+    if not os.path.exists(PROGRAM):
+        sys.exit("build the program first: tools/show --build")
+    failed = []
+    with tempfile.TemporaryDirectory() as folder:
+        seconds = {}
+        base = measure([sys.executable, "-c", "pass"], os.devnull)[0]
+        for size in (SMALL, LARGE):
+            for name, message in shapes(size).items():
+                path = os.path.join(folder, "message")
+                with open(path, "wb") as file:
+                    file.write(message)
+                own, peak = measure([PROGRAM, "show"], path)
+                python = measure([sys.executable, "-c", PYTHON], path)[0] - base
+                seconds[name, size] = own
+                print(f"{size:>10} {name:26} {own:7.3f} s  python {python:7.3f} s  {own / python:5.2f}  {peak * 1024 / len(message):6.2f} bytes a byte")
+                if size == LARGE:
+                    seconds[name, "python"] = python
+                    seconds[name, "peak"] = peak * 1024 / len(message)
+        bounds = [
+            ("plain text beside Python", seconds["plain text", LARGE] / seconds["plain text", "python"], 2),
+            ("less-than signs beside Python", seconds["less-than signs", LARGE] / seconds["less-than signs", "python"], 1),
+        ]
+        for name in ("header lines", "short header lines", "lines that are no field", "one folded field"):
+            bounds.append((f"{name} beside plain text", seconds[name, LARGE] / seconds["plain text", LARGE], 3))
+        for name in shapes(SMALL):
+            bounds.append((f"{name}: growth of time", seconds[name, LARGE] / max(seconds[name, SMALL], 0.001), 12))
+            bounds.append((f"{name}: memory", seconds[name, "peak"], 10 if name == "less-than signs" else 5))
+        for name, got, most in bounds:
+            mark = "" if got <= most else "   PAST THE BOUND"
+            print(f"{name:45} {got:6.2f} of {most}{mark}")
+            if got > most:
+                failed.append(name)
+    sys.exit(1 if failed else 0)
+
+
+main()
