@@ -9,3 +9,4 @@ pub mod Nesting
 pub mod Parts
 pub mod Mail
 mod Examples
+mod TextPage
