@@ -73,11 +73,11 @@ loadable-if : (images : Bool) (own : List ℕ → Bool) (loading : Bool) (addres
 loadable-if images own true address h = (h refl, tt)
 loadable-if images own false address h = tt
 
-or_right : (a b : Bool) → b ≡ true → (a || b) ≡ true
+pub or_right : (a b : Bool) → b ≡ true → (a || b) ≡ true
 or_right true b e = refl
 or_right false b e = e
 
-or_left : (a b : Bool) → a ≡ true → (a || b) ≡ true
+pub or_left : (a b : Bool) → a ≡ true → (a || b) ≡ true
 or_left true b e = refl
 or_left false b e = absurd cc
 
