@@ -1,14 +1,13 @@
 -- A section's spelling, cut at its dots, gives its numbers' spellings back.
-use Rattle.std.proofs.Common.{◌≡◌, ℕ, zero, suc, ◌+◌, ◌<◌, ◌≤◌, ◌^◌, Bool, true, false, List, [], ◌∷◌, ◌++◌, length, map, take, sym, ap, ◌∙◌, refl, arith, rules, Result, Ok, Err, Option, Some, None, eqb, decimal, append_assoc, length-append, get_or, subst, IsTrue, inl, inr, ◌⊎◌}
+use Rattle.std.proofs.Common.{◌≡◌, ℕ, zero, suc, ◌+◌, ◌<◌, ◌≤◌, ◌^◌, Bool, true, false, List, [], ◌∷◌, ◌++◌, length, map, take, sym, ap, ◌∙◌, refl, arith, Result, Ok, Err, Option, Some, None, eqb, decimal, append_assoc, length-append, get_or, subst, IsTrue}
 use Rattle.std.specs.List.{All, join_with_byte, slice_split}
-use Rattle.std.specs.Str.Parse.{ParsesUnsigned, AllDigits, digits_value}
+use Rattle.std.specs.Str.Parse.{ParsesUnsigned, AllDigits}
 use Rattle.std.proofs.lemmas.Fmt.{parse-decimal, decimal_is_IsNumeral, decimal_nonempty}
-use Rattle.std.proofs.lemmas.Str.Parse.{numerals_by_value, tells_digits, IsNumeralModel}
 use Rattle.std.specs.Char.{digit_value}
 use Rattle.std.proofs.Math.Seq.{take-suc, take-length}
 use Rattle.std.proofs.lemmas.Bool.{ne_eqb}
 use Rattle.std.proofs.lemmas.List.Elements.{All-take}
-use Rattle.std.proofs.lemmas.List.{length-map, map-append, get_or-map, length-take-le}
+use Rattle.std.proofs.lemmas.List.{length-map, map-append, get_or-map}
 use Rattle.std.proofs.lemmas.List.Splits.{slice_split_at, slice_split_none}
 use Rattle.mail_io.specs.Section.{IsNumber, IsSection, spelling, numbers_of, one_more}
 

@@ -2,18 +2,24 @@ use crate::*;
 use std::alloc::Global;
 use std::test::Fail;
 
+fn bytes_of(alloc: Global, count: usize) -> Result<Vec<u8>, Memory> {
+    let mut bytes = Vec::new(alloc);
+    for _ in 0..count {
+        bytes.push(b'x')?;
+    }
+    Ok(bytes)
+}
+
 /// Reads a source whose calls of these numbers fail, up to a limit.
 fn read_of(
     alloc: Global,
     bytes: &[u8],
     failing: &[u64],
-    limit: usize,
-) -> Result<Vec<u8>, InputFault>
-    requires { limit < 2 ^ 32 }
-{
+    limit: u16,
+) -> Result<Vec<u8>, InputFault> {
     let failing = Vec::from_slice(alloc, failing)?;
     let mut source = MemorySource::new(Bytes::from_slice(alloc, bytes)?, failing);
-    read_to_end(alloc, &mut source, limit)
+    read_to_end(alloc, &mut source, usize::from(limit))
 }
 
 /// The outcome of writing a piece, and what a sink of this room then holds.
@@ -32,7 +38,7 @@ fn write_of(
 #[test]
 fn reads_a_source_to_its_end(rt: HostRuntime) -> Result<(), Fail> {
     let alloc = rt.alloc();
-    let long = vec![in alloc; b'x'; 10_000]?;
+    let long = bytes_of(alloc, 10_000)?;
     for (failing, limit, want) in [
         ([0], 10_000, Ok(10_000)),
         ([0], 9_999, Err(InputFault::Long)),

@@ -1,4 +1,4 @@
-use Rattle.std.proofs.Common.{◌≡◌, ℕ, sym, ap, ◌∙◌, Some, Ok, decimal}
+use Rattle.std.proofs.Common.{ap, Some}
 use Rattle.mail_io.proofs.Spellings.{parsed, same_number, not_spelled, not_refused}
 use Rattle.mail_io.proofs.sections.read_number.Goals as goal
 

@@ -1,6 +1,6 @@
 use Rattle.std.proofs.Common.{◌≡◌, take}
 use Rattle.std.specs.Prelude.{string_bytes}
-use Rattle.mail_io.specs.Section.{spelling, IsSection}
+use Rattle.mail_io.specs.Section.{spelling}
 use Rattle.mail_io.proofs.sections.Section.spell.Given as goal
 
 abbrev pub invariant-loop-number : goal.invariant-loop-number

@@ -1,0 +1,5 @@
+pub mod Examples
+pub mod FirstLine
+pub mod WholeLines
+pub mod Scan
+pub mod Unfolding

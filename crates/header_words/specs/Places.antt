@@ -1,0 +1,35 @@
+-- Fields as the places of a message at which they begin.
+use Rattle.std.specs.Prelude.{ℕ, ◌+◌, ◌-◌, ◌<◌, List, [], ◌∷◌, ◌++◌, if◌then◌else◌, length, take, drop, slice_index}
+use Rattle.std.specs.Str.Lines.{lines}
+use Rattle.header_words.specs.Fields.{FieldValue, Header, field_of, begins_field}
+
+-- the field that these lines are
+abbrev pub field_of_lines : List (List ℕ) → FieldValue
+field_of_lines [] = record { name = []; lines = [] }
+field_of_lines (line ∷ more) = field_of line more
+
+abbrev pub raw_field : List ℕ → FieldValue
+raw_field raw = field_of_lines (lines raw)
+
+-- the field between two places
+abbrev pub field_between : List ℕ → ℕ → ℕ → FieldValue
+field_between bytes start end = raw_field (take (end - start) (drop start bytes))
+
+-- the fields that begin at these places, up to an end
+abbrev pub fields_at : List ℕ → List ℕ → ℕ → List FieldValue
+fields_at bytes [] end = []
+fields_at bytes (a ∷ []) end = field_between bytes a end ∷ []
+fields_at bytes (a ∷ b ∷ more) end = field_between bytes a b ∷ fields_at bytes (b ∷ more) end
+
+-- places that rise, up to an end
+pub record Rise (starts : List ℕ) (end : ℕ) : Type 0 where
+  pub next : (i : ℕ) → i + 1 < length starts → slice_index starts i < slice_index starts (i + 1)
+  pub within : (i : ℕ) → i < length starts → slice_index starts i < end
+
+-- what is seen of places in a message
+abbrev pub header_at : List ℕ → List ℕ → ℕ → ℕ → Header
+header_at bytes starts end body = record { fields = fields_at bytes starts end; body = body }
+
+-- the places with that of one more line
+abbrev pub starts_with : List ℕ → List ℕ → ℕ → List ℕ
+starts_with starts line at = if begins_field line then starts ++ at ∷ [] else starts

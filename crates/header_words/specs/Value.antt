@@ -1,0 +1,32 @@
+-- The value of a field as a text.
+use Rattle.std.specs.Prelude.{ℕ, ◌-◌, List, [], ◌∷◌, ◌++◌, if◌then◌else◌, length, take, drop}
+use Rattle.std.specs.List.{prefix_len, suffix_len, flat_map}
+use Rattle.std.specs.Str.Lossy.{utf8_lossy}
+use Rattle.header_words.specs.Fields.{is_blank, is_continuation}
+
+-- bytes without the blanks at their front, at their back, at both ends
+abbrev pub without_front : List ℕ → List ℕ
+without_front xs = drop (prefix_len is_blank xs) xs
+
+abbrev pub without_back : List ℕ → List ℕ
+without_back xs = take (length xs - suffix_len is_blank xs) xs
+
+abbrev pub trimmed : List ℕ → List ℕ
+trimmed xs = without_back (without_front xs)
+
+-- a line that goes on with a value: a fold, with the blanks after it, is one space
+abbrev pub unfolded_line : List ℕ → List ℕ
+unfolded_line line = 32 ∷ without_front line
+
+-- the lines of a value as one
+abbrev pub unfolded : List (List ℕ) → List ℕ
+unfolded [] = []
+unfolded (first ∷ more) = first ++ flat_map unfolded_line more
+
+-- the text of a value
+unfoldable pub decoded_of : List (List ℕ) → List ℕ
+decoded_of lines = utf8_lossy (trimmed (unfolded lines))
+
+-- bytes with one more line of a field
+abbrev pub unfolded_with : List ℕ → List ℕ → List ℕ
+unfolded_with value line = if is_continuation line then value ++ unfolded_line line else value

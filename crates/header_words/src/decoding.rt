@@ -1,0 +1,81 @@
+//! The value of a field as a text.
+ghost use Rattle.std.specs.Prelude.{◌≡◌, IfOk, OnOk, ◌++◌, string_bytes};
+ghost use Rattle.header_words.specs.Fields.{is_blank, is_continuation};
+ghost use Rattle.header_words.specs.Places.{raw_field};
+ghost use Rattle.header_words.specs.Value.{unfolded, unfolded_with, without_front, without_back, trimmed, decoded_of};
+
+use crate::bytes::{after_colon, first_line, goes_on};
+use crate::header::Field;
+use std::alloc::{AllocError, Global};
+
+/// The value with folds made single spaces and no white space at its ends, read as UTF-8 lossily.
+#[tactic(auto, unfolding(crate::specs::Value::decoded_of))]
+pub fn decoded(alloc: Global, field: &Field<'_>) -> Result<String, AllocError>
+    ensures { IfOk result (λ text. string_bytes text ≡ decoded_of field.now.lines) }
+{
+    let value = unfold(alloc, field.raw())?;
+    String::from_utf8_lossy(alloc, trim(&value))
+}
+
+/// The lines of a field's value as one.
+fn unfold(alloc: Global, raw: &[u8]) -> Result<Vec<u8>, AllocError>
+    ensures { IfOk result (λ value. value.items ≡ unfolded (raw_field raw.now).lines) }
+{
+    let (line, size) = first_line(raw);
+    let mut value = Vec::from_slice(alloc, after_colon(line))?;
+    let mut rest = &raw[size..];
+    while !rest.is_empty() {
+        let (line, size) = first_line(rest);
+        unfold_line(&mut value, line)?;
+        rest = &rest[size..];
+    }
+    Ok(value)
+}
+
+fn unfold_line(value: &mut Vec<u8>, line: &[u8]) -> Result<(), AllocError>
+    ensures { OnOk result (value.new.items ≡ unfolded_with value.old.items line.now) }
+{
+    if goes_on(line) {
+        value.push(b' ')?;
+        value.extend_from_slice(trim_front(line))?;
+    }
+    Ok(())
+}
+
+fn is_space(byte: u8) -> bool
+    ensures { result ≡ is_blank byte }
+{
+    byte == b' ' || byte == b'\t'
+}
+
+fn trim(bytes: &[u8]) -> &[u8]
+    ensures { result.now ≡ trimmed bytes.now }
+{
+    trim_back(trim_front(bytes))
+}
+
+fn trim_front(bytes: &[u8]) -> &[u8]
+    ensures { result.now ≡ without_front bytes.now }
+{
+    let mut rest = bytes;
+    while let [first, more @ ..] = rest {
+        if !is_space(*first) {
+            break;
+        }
+        rest = more;
+    }
+    rest
+}
+
+fn trim_back(bytes: &[u8]) -> &[u8]
+    ensures { result.now ≡ without_back bytes.now }
+{
+    let mut rest = bytes;
+    while let [more @ .., last] = rest {
+        if !is_space(*last) {
+            break;
+        }
+        rest = more;
+    }
+    rest
+}

@@ -1,0 +1,167 @@
+//! A header: its fields, and where the body begins.
+ghost use Rattle.std.specs.Prelude.{◌≡◌, ◌<◌, ◌≤◌, ◌+◌, ◌-◌, ◌==◌, length, slice_index_or, take, drop, min, Some};
+ghost use Rattle.std.specs.List.{slice_get};
+ghost use Rattle.std.specs.Str.{str_eq_ignore_ascii_case};
+
+use crate::bytes::{colon_of, first_line};
+use std::marker::Model;
+
+/// A field of a message, which lends its lines.
+#[derive(Drop)]
+pub struct Field<'a> {
+    raw: &'a [u8],
+}
+
+impl<'a> Model for Field<'a> {
+    ghost use Rattle.header_words.specs.Fields.{FieldValue};
+    ghost use Rattle.header_words.specs.Places.{raw_field};
+
+    ghost Value = { FieldValue };
+
+    ghost view = { λ f. raw_field f.raw.now };
+}
+
+/// The fields of a message in order, and where its body begins. They lend the message's bytes and keep no more than the
+/// place of each.
+#[derive(Drop)]
+pub struct Fields<'a> {
+    bytes: &'a [u8],
+    starts: Vec<usize>,
+    end: usize,
+    body: usize,
+}
+
+impl<'a> Model for Fields<'a> {
+    ghost use Rattle.std.specs.Prelude.{◌≤◌, length};
+    ghost use Rattle.header_words.specs.Fields.{Header};
+    ghost use Rattle.header_words.specs.Places.{header_at, Rise};
+
+    ghost Value = { Header };
+
+    ghost view = { λ f. header_at f.bytes.now f.starts.items f.end f.body };
+
+    ghost invariant = { λ f. Rise f.starts.items f.end × (f.end ≤ length f.bytes.now) };
+}
+
+impl<'a> Field<'a> {
+    ghost use Rattle.header_words.specs.Places.{raw_field};
+    ghost use Rattle.header_words.specs.Fields.{has_name};
+
+    /// The field that a line begins, with the lines up to the next field's.
+    pub(crate) fn of(raw: &'a [u8]) -> Self
+        ensures { result ≡ raw_field raw.now }
+    {
+        Field { raw }
+    }
+
+    /// The lines of the field as they are written.
+    pub(crate) fn raw(&self) -> &'a [u8]
+        ensures { raw_field result.now ≡ self.now }
+    {
+        self.raw
+    }
+
+    /// The name as it is written.
+    pub fn name(&self) -> &'a [u8]
+        ensures { result.now ≡ self.now.name }
+    {
+        let (line, _) = first_line(self.raw);
+        &line[..colon_of(line)]
+    }
+
+    /// Whether this is the name, whatever the case of its letters.
+    pub fn is_named(&self, name: &str) -> bool
+        ensures { result ≡ has_name name.now self.now }
+    {
+        begins_with(self.raw, name) && self.name().eq_ignore_ascii_case(name.as_bytes())
+    }
+}
+
+/// Whether bytes begin with a name; a look that tells most fields from a name without reading their line.
+fn begins_with(raw: &[u8], name: &str) -> bool
+    ensures { result ≡ str_eq_ignore_ascii_case (take (min (length name.now) (length raw.now)) raw.now) name.now }
+{
+    let size = name.len().min(raw.len());
+    raw[..size].eq_ignore_ascii_case(name.as_bytes())
+}
+
+fn between(bytes: &[u8], start: usize, end: usize) -> &[u8]
+    requires rise { start ≤ end }
+    requires within { end ≤ length bytes.now }
+    ensures { result.now ≡ take (end - start) (drop start bytes.now) }
+{
+    &bytes[start..end]
+}
+
+/// Where the field after this one begins, or the end.
+fn next_start(starts: &[usize], index: usize, end: usize) -> usize
+    requires { index < length starts.now }
+    ensures { result ≡ slice_index_or starts.now (index + 1) end }
+{
+    match starts.get(index + 1) {
+        Some(next) => *next,
+        None => end,
+    }
+}
+
+impl<'a> Fields<'a> {
+    ghost use Rattle.header_words.specs.Fields.{first_of};
+    ghost use Rattle.header_words.specs.Places.{header_at, Rise};
+
+    /// The fields that begin at these places.
+    pub(crate) fn of(bytes: &'a [u8], starts: Vec<usize>, end: usize, body: usize) -> Self
+        requires rise { Rise starts.items end }
+        requires within { end ≤ length bytes.now }
+        ensures { result ≡ header_at bytes.now starts.items end body }
+    {
+        Fields {
+            bytes,
+            starts,
+            end,
+            body,
+        }
+    }
+
+    /// Where the body begins.
+    pub fn body_at(&self) -> usize
+        ensures { result ≡ self.now.body }
+    {
+        self.body
+    }
+
+    /// How many fields there are.
+    pub fn len(&self) -> usize
+        ensures { result ≡ length self.now.fields }
+    {
+        self.starts.len()
+    }
+
+    pub fn is_empty(&self) -> bool
+        ensures { result ≡ (length self.now.fields == 0) }
+    {
+        self.len() == 0
+    }
+
+    /// The field of this number, from 0.
+    pub fn get(&self, index: usize) -> Field<'a>
+        requires { index < length self.now.fields }
+        ensures { slice_get self.now.fields index ≡ Some result }
+    {
+        let start = self.starts[index];
+        let end = next_start(&self.starts, index, self.end);
+        Field::of(between(self.bytes, start, end))
+    }
+
+    /// The first field of a name, whatever the case of its letters.
+    pub fn first(&self, name: &str) -> Option<Field<'a>>
+        ensures { result ≡ first_of name.now self.now.fields }
+    {
+        for index in 0..self.len() {
+            let field = self.get(index);
+            if field.is_named(name) {
+                return Some(field);
+            }
+        }
+        None
+    }
+}

@@ -1,0 +1,36 @@
+//! Reads a header.
+ghost use Rattle.std.specs.Prelude.{◌≡◌, ◌≤◌, length, IfOk, OnOk};
+ghost use Rattle.header_words.specs.Fields.{header_of};
+ghost use Rattle.header_words.specs.Places.{starts_with};
+
+use crate::bytes::{first_line, is_field};
+use crate::header::Fields;
+use std::alloc::{AllocError, Global};
+
+/// The header fields of a message, up to the first empty line.
+pub fn fields(alloc: Global, bytes: &[u8]) -> Result<Fields<'_>, AllocError>
+    ensures header { IfOk result (λ read. read ≡ header_of bytes.now) }
+    ensures within { IfOk result (λ read. read.body ≤ length bytes.now) }
+{
+    let mut starts = Vec::new(alloc);
+    let mut at = 0;
+    while at < bytes.len() {
+        let (line, size) = first_line(&bytes[at..]);
+        if line.is_empty() {
+            return Ok(Fields::of(bytes, starts, at, at + size));
+        }
+        add_start(&mut starts, line, at)?;
+        at += size;
+    }
+    Ok(Fields::of(bytes, starts, at, at))
+}
+
+/// Adds the place of a line that begins a field.
+fn add_start(starts: &mut Vec<usize>, line: &[u8], at: usize) -> Result<(), AllocError>
+    ensures { OnOk result (starts.new.items ≡ starts_with starts.old.items line.now at) }
+{
+    if is_field(line) {
+        starts.push(at)?;
+    }
+    Ok(())
+}

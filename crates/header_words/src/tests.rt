@@ -1,0 +1,65 @@
+use crate::*;
+use std::alloc::Global;
+use std::test::Fail;
+
+/// The fields of a message as one text: for each its name, `=` and its value, then the place of the body.
+fn shown(alloc: Global, message: &[u8]) -> Result<String, Memory> {
+    let read = fields(alloc, message)?;
+    let mut text = String::new(alloc);
+    for index in 0..read.len() {
+        let field = read.get(index);
+        let name = String::from_utf8_lossy(alloc, field.name())?;
+        let value = decoded(alloc, &field)?;
+        write!(text, "{name}={value}|")?;
+    }
+    let body = read.body_at();
+    write!(text, "{body}")?;
+    Ok(text)
+}
+
+#[test]
+fn reads_fields(rt: HostRuntime) -> Result<(), Fail> {
+    let alloc = rt.alloc();
+    for (message, want) in [
+        (b"".as_slice(), "0"),
+        (b"\r\nSubject: a", "2"),
+        (b"Subject: t\r\n\r\nbody", "Subject=t|14"),
+        (b"A: 1\nB:2\n\nC: 3", "A=1|B=2|10"),
+        (b"A: one\r\n two\r\nB: 3", "A=one two|B=3|18"),
+        (
+            b"A: \xff\r\n\tx \r\nnot a field\r\n y\r\n",
+            "A=\u{FFFD} x  y|28",
+        ),
+        (b" first\r\nA: 1\r\n", "A=1|14"),
+        (b"A B: 1\r\n: 2\r\nC\x7f: 3\r\nD: 4", "D=4|24"),
+        (b"A: 1\r", "A=1\r|5"),
+    ] {
+        let text = shown(alloc, message)?;
+        assert_eq!(rt; text.as_str(), want);
+    }
+    Ok(())
+}
+
+#[test]
+fn finds_the_first_of_a_name(rt: HostRuntime) -> Result<(), Fail> {
+    let alloc = rt.alloc();
+    let read = fields(alloc, b"To: a\r\nSUBJECT: b\r\nSubject: c\r\nX: d\r\n")?;
+    for (name, want) in [
+        ("subject", Some("b")),
+        ("to", Some("a")),
+        ("x", Some("d")),
+        ("Cc", None),
+        ("", None),
+        ("To: a", None),
+    ] {
+        match read.first(name) {
+            Some(field) => {
+                let value = decoded(alloc, &field)?;
+                assert_eq!(rt; value.as_str(), want.ok_or("no field")?, "{name}");
+            }
+            None => assert!(rt; want.is_none(), "{name}"),
+        }
+    }
+    assert!(rt; !read.is_empty());
+    Ok(())
+}
