@@ -1,8 +1,8 @@
 -- The numbers of character references.
-use Rattle.std.proofs.Common.{◌≡◌, ℕ, ◌+◌, ◌*◌, ◌<◌, ◌≤◌, min, nat_lt, nat_le, Bool, true, false, ◌||◌, ◌==◌, List, [], ◌∷◌, length, drop, fold, get_or, ne_eqb, refl, sym, ap, ◌∙◌, arith}
+use Rattle.std.proofs.Common.{◌≡◌, ℕ, ◌+◌, ◌*◌, ◌<◌, ◌≤◌, min, nat_lt, Bool, true, false, ◌||◌, ◌==◌, List, [], ◌∷◌, length, drop, fold, get_or, ne_eqb, refl, sym, ◌∙◌, arith}
 use Rattle.std.specs.Char.{digit_value}
 use Rattle.html_tokens.specs.Names.{names}
-use Rattle.html_tokens.specs.References.{Reference, is_surrogate, char_of, semicolon_len, of_digits, reference, of_name, longest}
+use Rattle.html_tokens.specs.References.{is_surrogate, char_of, semicolon_len, of_digits, reference, of_name, longest}
 use Rattle.plain_tokens.specs.Read.{base}
 
 or_true : (b : Bool) → (b || true) ≡ true

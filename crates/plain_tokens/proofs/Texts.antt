@@ -1,5 +1,5 @@
 -- Texts as their characters, and tokens one after another.
-use Rattle.std.proofs.Common.{◌≡◌, ℕ, Bool, true, false, ◌==◌, IsTrue, ne_eqb, List, [], ◌∷◌, ◌++◌, length, chars, encode_utf8_all, map, refl, sym, ap, ◌∙◌, append-nil, append_assoc, arith, IsUtf8}
+use Rattle.std.proofs.Common.{◌≡◌, ℕ, Bool, false, ◌==◌, IsTrue, ne_eqb, List, [], ◌∷◌, ◌++◌, length, chars, encode_utf8_all, map, refl, sym, ap, ◌∙◌, append-nil, append_assoc, arith, IsUtf8}
 use Rattle.html_tokens.specs.Characters.{lower}
 use Rattle.std.specs.Char.{IsScalar}
 use Rattle.std.proofs.lemmas.Str.{chars-append, chars_past_char, chars-nil, IsUtf8-encode, encodes-chars}

@@ -8,13 +8,19 @@ ghost use Rattle.plain_tokens.specs.Plain.{Moves, Steps, move_of, state_of, kind
 
 use crate::rows::{comments, scripts, tags, text};
 use crate::state::{Kind, Move, State};
+use crate::token_list::TokenList;
 use crate::word::Word;
-use crate::written::Written;
 use html_tokens::{Memory, Token};
 use std::alloc::Global;
 
 /// One look at a character: the row of the state.
-fn look_at(alloc: Global, out: &mut Written, state: State, c: char, text: &[char]) -> Result<Move, Memory>
+fn look_at(
+    alloc: Global,
+    out: &mut TokenList,
+    state: State,
+    c: char,
+    text: &[char],
+) -> Result<Move, Memory>
     ensures { IfOk result (λ m. Moves m out.old out.new (look (state_of state) c text.now)) }
 {
     match state {
@@ -25,7 +31,9 @@ fn look_at(alloc: Global, out: &mut Written, state: State, c: char, text: &[char
         State::Raw(kind, last) => raw(alloc, out, kind, last, c, text),
         State::RawLess(kind, last) => text::raw_less(alloc, out, kind, last, c),
         State::RawEndOpen(kind, last) => text::raw_end_open(alloc, out, kind, last, c),
-        State::RawEndName(kind, last, letters) => text::raw_end_name(alloc, out, kind, last, letters, c),
+        State::RawEndName(kind, last, letters) => text::raw_end_name(
+            alloc, out, kind, last, letters, c,
+        ),
         State::EscapeStart(last) => scripts::escape_start(alloc, out, last, c),
         State::EscapeStartDash(last) => scripts::escape_start_dash(alloc, out, last, c),
         State::EscapedDash(last) => scripts::escaped_dash(alloc, out, last, c),
@@ -42,8 +50,12 @@ fn look_at(alloc: Global, out: &mut Written, state: State, c: char, text: &[char
         State::AttributeName(tag, name) => tags::attribute_name(out, tag, name, c),
         State::AfterName(tag, name) => tags::after_name(alloc, out, tag, name, c),
         State::BeforeValue(tag, name) => tags::before_value(alloc, out, tag, name, c),
-        State::QuotedValue(quote, tag, name, value) => tags::quoted_value(alloc, out, quote, tag, name, value, c, text),
-        State::UnquotedValue(tag, name, value) => tags::unquoted_value(alloc, out, tag, name, value, c, text),
+        State::QuotedValue(quote, tag, name, value) => tags::quoted_value(
+            alloc, out, quote, tag, name, value, c, text,
+        ),
+        State::UnquotedValue(tag, name, value) => tags::unquoted_value(
+            alloc, out, tag, name, value, c, text,
+        ),
         State::AfterValue(tag) => tags::after_value(alloc, out, tag, c),
         State::SelfClosing(tag) => tags::self_closing(alloc, out, tag, c),
         State::Bogus(comment) => comments::bogus(out, comment, c),
@@ -58,7 +70,14 @@ fn look_at(alloc: Global, out: &mut Written, state: State, c: char, text: &[char
     }
 }
 
-fn raw(alloc: Global, out: &mut Written, kind: Kind, last: Word, c: char, text: &[char]) -> Result<Move, Memory>
+fn raw(
+    alloc: Global,
+    out: &mut TokenList,
+    kind: Kind,
+    last: Word,
+    c: char,
+    text: &[char],
+) -> Result<Move, Memory>
     ensures { IfOk result (λ m. Moves m out.old out.new (look (Raw (kind_of kind) last) c text.now)) }
 {
     match kind {
@@ -71,7 +90,13 @@ fn raw(alloc: Global, out: &mut Written, kind: Kind, last: Word, c: char, text: 
 
 /// A character that a row says to read again is looked at again.
 #[tactic(auto, unfolding(html_tokens::specs::Tokenizer::again))]
-fn look_again(alloc: Global, out: &mut Written, moved: Move, c: char, text: &[char]) -> Result<Move, Memory>
+fn look_again(
+    alloc: Global,
+    out: &mut TokenList,
+    moved: Move,
+    c: char,
+    text: &[char],
+) -> Result<Move, Memory>
     ensures { IfOk result (λ m. move_of m out.new ≡ again c text.now (move_of moved out.old)) }
 {
     match moved {
@@ -88,7 +113,13 @@ struct Place {
     passing: usize,
 }
 
-fn step_over(alloc: Global, out: &mut Written, state: State, c: char, text: &[char]) -> Result<Place, Memory>
+fn step_over(
+    alloc: Global,
+    out: &mut TokenList,
+    state: State,
+    c: char,
+    text: &[char],
+) -> Result<Place, Memory>
     ensures { IfOk result (λ p. Steps (state_of p.state) p.passing out.old out.new (step (state_of state) c text.now)) }
 {
     let first = look_at(alloc, out, state, c, text)?;
@@ -103,7 +134,13 @@ fn step_over(alloc: Global, out: &mut Written, state: State, c: char, text: &[ch
 
 /// One character more, which may have been read with an earlier one.
 #[tactic(auto, unfolding(html_tokens::specs::Tokenizer::read))]
-fn advanced(alloc: Global, out: &mut Written, place: Place, c: char, text: &[char]) -> Result<Place, Memory>
+fn advanced(
+    alloc: Global,
+    out: &mut TokenList,
+    place: Place,
+    c: char,
+    text: &[char],
+) -> Result<Place, Memory>
     ensures { IfOk result (λ p. out.new ++ read (state_of p.state) p.passing text.now ≡ out.old ++ read (state_of place.state) place.passing (c ∷ text.now)) }
 {
     let Place { state, passing } = place;
@@ -117,10 +154,10 @@ fn advanced(alloc: Global, out: &mut Written, place: Place, c: char, text: &[cha
     }
 }
 
-fn read_characters(alloc: Global, characters: &[char]) -> Result<Written, Memory>
+fn read_characters(alloc: Global, characters: &[char]) -> Result<TokenList, Memory>
     ensures { IfOk result (λ w. w ≡ read Data 0 characters.now) }
 {
-    let mut out = Written::new(alloc);
+    let mut out = TokenList::new(alloc);
     let mut place = Place {
         state: State::Data,
         passing: 0,
@@ -134,7 +171,7 @@ fn read_characters(alloc: Global, characters: &[char]) -> Result<Written, Memory
 
 /// What the end of the text gives.
 #[tactic(auto, unfolding(html_tokens::specs::Rows::at_end))]
-fn push_end(alloc: Global, out: &mut Written, state: State) -> Result<(), Memory>
+fn push_end(alloc: Global, out: &mut TokenList, state: State) -> Result<(), Memory>
     ensures { OnOk result (out.new ≡ out.old ++ at_end (state_of state)) }
 {
     match state {
@@ -144,21 +181,33 @@ fn push_end(alloc: Global, out: &mut Written, state: State) -> Result<(), Memory
             push_end_tag_open(alloc, out)?;
             out.push_text(letters)
         }
-        State::Bogus(comment) | State::CommentStart(comment) | State::CommentStartDash(comment) | State::CommentBody(comment) => out.push_comment(comment),
-        State::CommentEndDash(comment) | State::CommentEnd(comment) | State::CommentEndBang(comment) => out.push_comment(comment),
+        State::Bogus(comment)
+        | State::CommentStart(comment)
+        | State::CommentStartDash(comment)
+        | State::CommentBody(comment) => out.push_comment(comment),
+        State::CommentEndDash(comment)
+        | State::CommentEnd(comment)
+        | State::CommentEndBang(comment) => out.push_comment(comment),
         State::Markup => out.push_comment(Word::new(alloc)),
         State::DoctypeBody => out.push_doctype(),
         State::Data | State::Plaintext | State::Raw(_, _) => Ok(()),
-        State::EscapeStart(_) | State::EscapeStartDash(_) | State::EscapedDash(_) | State::EscapedDashDash(_) => Ok(()),
+        State::EscapeStart(_)
+        | State::EscapeStartDash(_)
+        | State::EscapedDash(_)
+        | State::EscapedDashDash(_) => Ok(()),
         State::DoubleStart(_, _) | State::DoubleEscaped(_) | State::DoubleDash(_) => Ok(()),
         State::DoubleDashDash(_) | State::DoubleLess(_) | State::DoubleEnd(_, _) => Ok(()),
-        State::TagName(_) | State::BeforeName(_) | State::AttributeName(_, _) | State::AfterName(_, _) => Ok(()),
-        State::BeforeValue(_, _) | State::QuotedValue(_, _, _, _) | State::UnquotedValue(_, _, _) => Ok(()),
+        State::TagName(_)
+        | State::BeforeName(_)
+        | State::AttributeName(_, _)
+        | State::AfterName(_, _) => Ok(()),
+        State::BeforeValue(_, _) | State::QuotedValue(_, _, _, _) | State::UnquotedValue(_, _, _) =>
+            Ok(()),
         State::AfterValue(_) | State::SelfClosing(_) => Ok(()),
     }
 }
 
-fn push_end_tag_open(alloc: Global, out: &mut Written) -> Result<(), Memory>
+fn push_end_tag_open(alloc: Global, out: &mut TokenList) -> Result<(), Memory>
     ensures { OnOk result (out.new ≡ out.old ++ char_tokens (less_than ∷ solidus ∷ [])) }
 {
     out.push_char(alloc, '<')?;

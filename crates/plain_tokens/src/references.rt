@@ -15,13 +15,17 @@ pub struct Reference {
 }
 
 /// The `&` is text.
-const NONE: Reference = Reference { len: 0, character: '&' };
+const NONE: Reference = Reference {
+    len: 0,
+    character: '&',
+};
 
 /// What 0x80 to 0x9F stand for.
 const WINDOWS_1252: [char; 32] = [
-    '\u{20AC}', '\u{81}', '\u{201A}', '\u{192}', '\u{201E}', '\u{2026}', '\u{2020}', '\u{2021}', '\u{2C6}', '\u{2030}', '\u{160}', '\u{2039}', '\u{152}',
-    '\u{8D}', '\u{17D}', '\u{8F}', '\u{90}', '\u{2018}', '\u{2019}', '\u{201C}', '\u{201D}', '\u{2022}', '\u{2013}', '\u{2014}', '\u{2DC}', '\u{2122}',
-    '\u{161}', '\u{203A}', '\u{153}', '\u{9D}', '\u{17E}', '\u{178}',
+    '\u{20AC}', '\u{81}', '\u{201A}', '\u{192}', '\u{201E}', '\u{2026}', '\u{2020}', '\u{2021}',
+    '\u{2C6}', '\u{2030}', '\u{160}', '\u{2039}', '\u{152}', '\u{8D}', '\u{17D}', '\u{8F}',
+    '\u{90}', '\u{2018}', '\u{2019}', '\u{201C}', '\u{201D}', '\u{2022}', '\u{2013}', '\u{2014}',
+    '\u{2DC}', '\u{2122}', '\u{161}', '\u{203A}', '\u{153}', '\u{9D}', '\u{17E}', '\u{178}',
 ];
 
 /// The reference whose `&` stands before the text.
@@ -74,7 +78,11 @@ fn leading(hexadecimal: bool, text: &[char]) -> &[char]
 fn is_digit_in(hexadecimal: bool, c: char) -> bool
     ensures { result ≡ digit_test hexadecimal c }
 {
-    if hexadecimal { c.is_ascii_hexdigit() } else { c.is_ascii_digit() }
+    if hexadecimal {
+        c.is_ascii_hexdigit()
+    } else {
+        c.is_ascii_digit()
+    }
 }
 
 /// These digits, with which the text begins, after so many characters.

@@ -8,12 +8,12 @@ ghost use Rattle.plain_tokens.specs.Plain.{Moves};
 
 use super::classes::{begins, begins_lowered, push_shown};
 use crate::state::{Move, State};
+use crate::token_list::TokenList;
 use crate::word::Word;
-use crate::written::Written;
 use html_tokens::Memory;
 use std::alloc::Global;
 
-pub fn bogus(out: &mut Written, mut comment: Word, c: char) -> Result<Move, Memory>
+pub fn bogus(out: &mut TokenList, mut comment: Word, c: char) -> Result<Move, Memory>
     ensures { IfOk result (λ m. (text : List ℕ) → Moves m out.old out.new (look (Bogus comment) c text)) }
 {
     if c == '>' {
@@ -25,7 +25,7 @@ pub fn bogus(out: &mut Written, mut comment: Word, c: char) -> Result<Move, Memo
     }
 }
 
-pub fn comment_start(out: &mut Written, comment: Word, c: char) -> Result<Move, Memory>
+pub fn comment_start(out: &mut TokenList, comment: Word, c: char) -> Result<Move, Memory>
     ensures { IfOk result (λ m. (text : List ℕ) → Moves m out.old out.new (look (CommentStart comment) c text)) }
 {
     if c == '-' {
@@ -38,7 +38,7 @@ pub fn comment_start(out: &mut Written, comment: Word, c: char) -> Result<Move, 
     }
 }
 
-pub fn comment_start_dash(out: &mut Written, mut comment: Word, c: char) -> Result<Move, Memory>
+pub fn comment_start_dash(out: &mut TokenList, mut comment: Word, c: char) -> Result<Move, Memory>
     ensures { IfOk result (λ m. (text : List ℕ) → Moves m out.old out.new (look (CommentStartDash comment) c text)) }
 {
     if c == '-' {
@@ -52,7 +52,7 @@ pub fn comment_start_dash(out: &mut Written, mut comment: Word, c: char) -> Resu
     }
 }
 
-pub fn comment_body(out: &mut Written, mut comment: Word, c: char) -> Result<Move, Memory>
+pub fn comment_body(out: &mut TokenList, mut comment: Word, c: char) -> Result<Move, Memory>
     ensures { IfOk result (λ m. (text : List ℕ) → Moves m out.old out.new (look (CommentBody comment) c text)) }
 {
     if c == '-' {
@@ -63,7 +63,7 @@ pub fn comment_body(out: &mut Written, mut comment: Word, c: char) -> Result<Mov
     }
 }
 
-pub fn comment_end_dash(out: &mut Written, mut comment: Word, c: char) -> Result<Move, Memory>
+pub fn comment_end_dash(out: &mut TokenList, mut comment: Word, c: char) -> Result<Move, Memory>
     ensures { IfOk result (λ m. (text : List ℕ) → Moves m out.old out.new (look (CommentEndDash comment) c text)) }
 {
     if c == '-' {
@@ -74,7 +74,7 @@ pub fn comment_end_dash(out: &mut Written, mut comment: Word, c: char) -> Result
     }
 }
 
-pub fn comment_end(out: &mut Written, mut comment: Word, c: char) -> Result<Move, Memory>
+pub fn comment_end(out: &mut TokenList, mut comment: Word, c: char) -> Result<Move, Memory>
     ensures { IfOk result (λ m. (text : List ℕ) → Moves m out.old out.new (look (CommentEnd comment) c text)) }
 {
     if c == '>' {
@@ -92,7 +92,7 @@ pub fn comment_end(out: &mut Written, mut comment: Word, c: char) -> Result<Move
     }
 }
 
-pub fn comment_end_bang(out: &mut Written, mut comment: Word, c: char) -> Result<Move, Memory>
+pub fn comment_end_bang(out: &mut TokenList, mut comment: Word, c: char) -> Result<Move, Memory>
     ensures { IfOk result (λ m. (text : List ℕ) → Moves m out.old out.new (look (CommentEndBang comment) c text)) }
 {
     if c == '>' {
@@ -110,7 +110,7 @@ pub fn comment_end_bang(out: &mut Written, mut comment: Word, c: char) -> Result
 }
 
 /// `--` begins a comment and `doctype` in any case a DOCTYPE.
-pub fn markup(alloc: Global, out: &mut Written, c: char, text: &[char]) -> Result<Move, Memory>
+pub fn markup(alloc: Global, out: &mut TokenList, c: char, text: &[char]) -> Result<Move, Memory>
     ensures { IfOk result (λ m. Moves m out.old out.new (look Markup c text.now)) }
 {
     if c == '-' && begins("-", text) {
@@ -122,7 +122,7 @@ pub fn markup(alloc: Global, out: &mut Written, c: char, text: &[char]) -> Resul
     }
 }
 
-pub fn doctype_body(out: &mut Written, c: char) -> Result<Move, Memory>
+pub fn doctype_body(out: &mut TokenList, c: char) -> Result<Move, Memory>
     ensures { IfOk result (λ m. (text : List ℕ) → Moves m out.old out.new (look DoctypeBody c text)) }
 {
     if c == '>' {

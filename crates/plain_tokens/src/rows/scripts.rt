@@ -11,12 +11,12 @@ ghost use Rattle.plain_tokens.specs.Plain.{Moves};
 
 use super::classes::{is_letter, is_space, shown};
 use crate::state::{Kind, Move, State};
+use crate::token_list::TokenList;
 use crate::word::Word;
-use crate::written::Written;
 use html_tokens::Memory;
 use std::alloc::Global;
 
-pub fn escape_start(alloc: Global, out: &mut Written, last: Word, c: char) -> Result<Move, Memory>
+pub fn escape_start(alloc: Global, out: &mut TokenList, last: Word, c: char) -> Result<Move, Memory>
     ensures { IfOk result (λ m. (text : List ℕ) → Moves m out.old out.new (look (EscapeStart last) c text)) }
 {
     if c == '-' {
@@ -27,7 +27,12 @@ pub fn escape_start(alloc: Global, out: &mut Written, last: Word, c: char) -> Re
     }
 }
 
-pub fn escape_start_dash(alloc: Global, out: &mut Written, last: Word, c: char) -> Result<Move, Memory>
+pub fn escape_start_dash(
+    alloc: Global,
+    out: &mut TokenList,
+    last: Word,
+    c: char,
+) -> Result<Move, Memory>
     ensures { IfOk result (λ m. (text : List ℕ) → Moves m out.old out.new (look (EscapeStartDash last) c text)) }
 {
     if c == '-' {
@@ -38,17 +43,21 @@ pub fn escape_start_dash(alloc: Global, out: &mut Written, last: Word, c: char) 
     }
 }
 
-pub fn escaped(alloc: Global, out: &mut Written, last: Word, c: char) -> Result<Move, Memory>
+pub fn escaped(alloc: Global, out: &mut TokenList, last: Word, c: char) -> Result<Move, Memory>
     ensures { IfOk result (λ m. (text : List ℕ) → Moves m out.old out.new (look (Raw Escaped last) c text)) }
 {
     if c == '<' {
         return Ok(Move::Go(State::EscapedLess(last)));
     }
     out.push_char(alloc, shown(c))?;
-    Ok(Move::Go(if c == '-' { State::EscapedDash(last) } else { State::Raw(Kind::Escaped, last) }))
+    Ok(Move::Go(if c == '-' {
+        State::EscapedDash(last)
+    } else {
+        State::Raw(Kind::Escaped, last)
+    }))
 }
 
-pub fn escaped_dash(alloc: Global, out: &mut Written, last: Word, c: char) -> Result<Move, Memory>
+pub fn escaped_dash(alloc: Global, out: &mut TokenList, last: Word, c: char) -> Result<Move, Memory>
     ensures { IfOk result (λ m. (text : List ℕ) → Moves m out.old out.new (look (EscapedDash last) c text)) }
 {
     if c == '<' {
@@ -62,7 +71,12 @@ pub fn escaped_dash(alloc: Global, out: &mut Written, last: Word, c: char) -> Re
     }
 }
 
-pub fn escaped_dash_dash(alloc: Global, out: &mut Written, last: Word, c: char) -> Result<Move, Memory>
+pub fn escaped_dash_dash(
+    alloc: Global,
+    out: &mut TokenList,
+    last: Word,
+    c: char,
+) -> Result<Move, Memory>
     ensures { IfOk result (λ m. (text : List ℕ) → Moves m out.old out.new (look (EscapedDashDash last) c text)) }
 {
     if c == '<' {
@@ -78,7 +92,7 @@ pub fn escaped_dash_dash(alloc: Global, out: &mut Written, last: Word, c: char) 
     }
 }
 
-pub fn escaped_less(alloc: Global, out: &mut Written, last: Word, c: char) -> Result<Move, Memory>
+pub fn escaped_less(alloc: Global, out: &mut TokenList, last: Word, c: char) -> Result<Move, Memory>
     ensures { IfOk result (λ m. (text : List ℕ) → Moves m out.old out.new (look (EscapedLess last) c text)) }
 {
     if c == '/' {
@@ -107,7 +121,13 @@ fn are_script(alloc: Global, letters: &Word) -> Result<bool, Memory>
     Ok(lowered.is("script"))
 }
 
-pub fn double_start(alloc: Global, out: &mut Written, last: Word, mut letters: Word, c: char) -> Result<Move, Memory>
+pub fn double_start(
+    alloc: Global,
+    out: &mut TokenList,
+    last: Word,
+    mut letters: Word,
+    c: char,
+) -> Result<Move, Memory>
     ensures { IfOk result (λ m. (text : List ℕ) → Moves m out.old out.new (look (DoubleStart last letters) c text)) }
 {
     if is_letter(c) {
@@ -125,7 +145,12 @@ pub fn double_start(alloc: Global, out: &mut Written, last: Word, mut letters: W
     }
 }
 
-pub fn double_escaped(alloc: Global, out: &mut Written, last: Word, c: char) -> Result<Move, Memory>
+pub fn double_escaped(
+    alloc: Global,
+    out: &mut TokenList,
+    last: Word,
+    c: char,
+) -> Result<Move, Memory>
     ensures { IfOk result (λ m. (text : List ℕ) → Moves m out.old out.new (look (DoubleEscaped last) c text)) }
 {
     out.push_char(alloc, shown(c))?;
@@ -138,7 +163,7 @@ pub fn double_escaped(alloc: Global, out: &mut Written, last: Word, c: char) -> 
     }
 }
 
-pub fn double_dash(alloc: Global, out: &mut Written, last: Word, c: char) -> Result<Move, Memory>
+pub fn double_dash(alloc: Global, out: &mut TokenList, last: Word, c: char) -> Result<Move, Memory>
     ensures { IfOk result (λ m. (text : List ℕ) → Moves m out.old out.new (look (DoubleDash last) c text)) }
 {
     out.push_char(alloc, shown(c))?;
@@ -151,7 +176,12 @@ pub fn double_dash(alloc: Global, out: &mut Written, last: Word, c: char) -> Res
     }
 }
 
-pub fn double_dash_dash(alloc: Global, out: &mut Written, last: Word, c: char) -> Result<Move, Memory>
+pub fn double_dash_dash(
+    alloc: Global,
+    out: &mut TokenList,
+    last: Word,
+    c: char,
+) -> Result<Move, Memory>
     ensures { IfOk result (λ m. (text : List ℕ) → Moves m out.old out.new (look (DoubleDashDash last) c text)) }
 {
     out.push_char(alloc, shown(c))?;
@@ -166,7 +196,7 @@ pub fn double_dash_dash(alloc: Global, out: &mut Written, last: Word, c: char) -
     }
 }
 
-pub fn double_less(alloc: Global, out: &mut Written, last: Word, c: char) -> Result<Move, Memory>
+pub fn double_less(alloc: Global, out: &mut TokenList, last: Word, c: char) -> Result<Move, Memory>
     ensures { IfOk result (λ m. (text : List ℕ) → Moves m out.old out.new (look (DoubleLess last) c text)) }
 {
     if c == '/' {
@@ -177,7 +207,13 @@ pub fn double_less(alloc: Global, out: &mut Written, last: Word, c: char) -> Res
     }
 }
 
-pub fn double_end(alloc: Global, out: &mut Written, last: Word, mut letters: Word, c: char) -> Result<Move, Memory>
+pub fn double_end(
+    alloc: Global,
+    out: &mut TokenList,
+    last: Word,
+    mut letters: Word,
+    c: char,
+) -> Result<Move, Memory>
     ensures { IfOk result (λ m. (text : List ℕ) → Moves m out.old out.new (look (DoubleEnd last letters) c text)) }
 {
     if is_letter(c) {

@@ -10,8 +10,8 @@ ghost use Rattle.plain_tokens.specs.Plain.{Moves, tag_of, state_of};
 use super::classes::{is_letter, is_space, push_lowered, push_shown};
 use crate::references::reference_before;
 use crate::state::{Kind, Move, State, Tag};
+use crate::token_list::TokenList;
 use crate::word::Word;
-use crate::written::Written;
 use html_tokens::{Attributes, Memory};
 use std::alloc::Global;
 
@@ -25,7 +25,7 @@ fn new_tag(alloc: Global, is_end: bool) -> Tag
     }
 }
 
-pub fn tag_open(alloc: Global, out: &mut Written, c: char) -> Result<Move, Memory>
+pub fn tag_open(alloc: Global, out: &mut TokenList, c: char) -> Result<Move, Memory>
     ensures { IfOk result (λ m. (text : List ℕ) → Moves m out.old out.new (look TagOpen c text)) }
 {
     if c == '!' {
@@ -42,7 +42,7 @@ pub fn tag_open(alloc: Global, out: &mut Written, c: char) -> Result<Move, Memor
     }
 }
 
-pub fn end_tag_open(alloc: Global, out: &mut Written, c: char) -> Result<Move, Memory>
+pub fn end_tag_open(alloc: Global, out: &mut TokenList, c: char) -> Result<Move, Memory>
     ensures { IfOk result (λ m. (text : List ℕ) → Moves m out.old out.new (look EndTagOpen c text)) }
 {
     if is_letter(c) {
@@ -54,7 +54,7 @@ pub fn end_tag_open(alloc: Global, out: &mut Written, c: char) -> Result<Move, M
     }
 }
 
-pub fn tag_name(alloc: Global, out: &mut Written, mut tag: Tag, c: char) -> Result<Move, Memory>
+pub fn tag_name(alloc: Global, out: &mut TokenList, mut tag: Tag, c: char) -> Result<Move, Memory>
     ensures { IfOk result (λ m. (text : List ℕ) → Moves m out.old out.new (look (TagName (tag_of tag)) c text)) }
 {
     if is_space(c) {
@@ -70,10 +70,14 @@ pub fn tag_name(alloc: Global, out: &mut Written, mut tag: Tag, c: char) -> Resu
 }
 
 /// The `>` of a tag.
-fn emit(alloc: Global, out: &mut Written, tag: Tag) -> Result<Move, Memory>
+fn emit(alloc: Global, out: &mut TokenList, tag: Tag) -> Result<Move, Memory>
     ensures { IfOk result (λ m. Moves m out.old out.new (emit_of (tag_of tag))) }
 {
-    let Tag { is_end, name, attributes } = tag;
+    let Tag {
+        is_end,
+        name,
+        attributes,
+    } = tag;
     if is_end {
         out.push_end(name)?;
         Ok(Move::Go(State::Data))
@@ -106,7 +110,11 @@ fn after_start(alloc: Global, name: &Word) -> Result<State, Memory>
 fn is_rawtext(name: &Word) -> bool
     ensures { result ≡ is_among raw_names name.now }
 {
-    name.is("style") || name.is("xmp") || name.is("iframe") || name.is("noembed") || name.is("noframes")
+    name.is("style")
+        || name.is("xmp")
+        || name.is("iframe")
+        || name.is("noembed")
+        || name.is("noframes")
 }
 
 /// An attribute was read: it is added where the tag has none of its name.
@@ -129,7 +137,7 @@ fn add_flag(alloc: Global, tag: &mut Tag, name: Word) -> Result<(), Memory>
     add(alloc, tag, name, Word::new(alloc))
 }
 
-pub fn before_name(alloc: Global, out: &mut Written, tag: Tag, c: char) -> Result<Move, Memory>
+pub fn before_name(alloc: Global, out: &mut TokenList, tag: Tag, c: char) -> Result<Move, Memory>
     ensures { IfOk result (λ m. (text : List ℕ) → Moves m out.old out.new (look (BeforeName (tag_of tag)) c text)) }
 {
     if is_space(c) {
@@ -146,7 +154,12 @@ pub fn before_name(alloc: Global, out: &mut Written, tag: Tag, c: char) -> Resul
     }
 }
 
-pub fn attribute_name(out: &mut Written, tag: Tag, mut name: Word, c: char) -> Result<Move, Memory>
+pub fn attribute_name(
+    out: &mut TokenList,
+    tag: Tag,
+    mut name: Word,
+    c: char,
+) -> Result<Move, Memory>
     ensures { IfOk result (λ m. (text : List ℕ) → Moves m out.old out.new (look (AttributeName (tag_of tag) name) c text)) }
 {
     if is_space(c) || c == '/' || c == '>' {
@@ -159,7 +172,13 @@ pub fn attribute_name(out: &mut Written, tag: Tag, mut name: Word, c: char) -> R
     }
 }
 
-pub fn after_name(alloc: Global, out: &mut Written, mut tag: Tag, name: Word, c: char) -> Result<Move, Memory>
+pub fn after_name(
+    alloc: Global,
+    out: &mut TokenList,
+    mut tag: Tag,
+    name: Word,
+    c: char,
+) -> Result<Move, Memory>
     ensures { IfOk result (λ m. (text : List ℕ) → Moves m out.old out.new (look (AfterName (tag_of tag) name) c text)) }
 {
     if is_space(c) {
@@ -178,7 +197,13 @@ pub fn after_name(alloc: Global, out: &mut Written, mut tag: Tag, name: Word, c:
     }
 }
 
-pub fn before_value(alloc: Global, out: &mut Written, mut tag: Tag, name: Word, c: char) -> Result<Move, Memory>
+pub fn before_value(
+    alloc: Global,
+    out: &mut TokenList,
+    mut tag: Tag,
+    name: Word,
+    c: char,
+) -> Result<Move, Memory>
     ensures { IfOk result (λ m. (text : List ℕ) → Moves m out.old out.new (look (BeforeValue (tag_of tag) name) c text)) }
 {
     let value = Word::new(alloc);
@@ -194,7 +219,16 @@ pub fn before_value(alloc: Global, out: &mut Written, mut tag: Tag, name: Word, 
     }
 }
 
-pub fn quoted_value(alloc: Global, out: &mut Written, quote: char, mut tag: Tag, name: Word, mut value: Word, c: char, text: &[char]) -> Result<Move, Memory>
+pub fn quoted_value(
+    alloc: Global,
+    out: &mut TokenList,
+    quote: char,
+    mut tag: Tag,
+    name: Word,
+    mut value: Word,
+    c: char,
+    text: &[char],
+) -> Result<Move, Memory>
     ensures { IfOk result (λ m. Moves m out.old out.new (look (QuotedValue quote (tag_of tag) name value) c text.now)) }
 {
     if c == quote {
@@ -210,7 +244,15 @@ pub fn quoted_value(alloc: Global, out: &mut Written, quote: char, mut tag: Tag,
     }
 }
 
-pub fn unquoted_value(alloc: Global, out: &mut Written, mut tag: Tag, name: Word, mut value: Word, c: char, text: &[char]) -> Result<Move, Memory>
+pub fn unquoted_value(
+    alloc: Global,
+    out: &mut TokenList,
+    mut tag: Tag,
+    name: Word,
+    mut value: Word,
+    c: char,
+    text: &[char],
+) -> Result<Move, Memory>
     ensures { IfOk result (λ m. Moves m out.old out.new (look (UnquotedValue (tag_of tag) name value) c text.now)) }
 {
     if is_space(c) {
@@ -229,7 +271,7 @@ pub fn unquoted_value(alloc: Global, out: &mut Written, mut tag: Tag, name: Word
     }
 }
 
-pub fn after_value(alloc: Global, out: &mut Written, tag: Tag, c: char) -> Result<Move, Memory>
+pub fn after_value(alloc: Global, out: &mut TokenList, tag: Tag, c: char) -> Result<Move, Memory>
     ensures { IfOk result (λ m. (text : List ℕ) → Moves m out.old out.new (look (AfterValue (tag_of tag)) c text)) }
 {
     if is_space(c) {
@@ -243,7 +285,7 @@ pub fn after_value(alloc: Global, out: &mut Written, tag: Tag, c: char) -> Resul
     }
 }
 
-pub fn self_closing(alloc: Global, out: &mut Written, tag: Tag, c: char) -> Result<Move, Memory>
+pub fn self_closing(alloc: Global, out: &mut TokenList, tag: Tag, c: char) -> Result<Move, Memory>
     ensures { IfOk result (λ m. (text : List ℕ) → Moves m out.old out.new (look (SelfClosing (tag_of tag)) c text)) }
 {
     if c == '>' {

@@ -12,12 +12,12 @@ ghost use Rattle.plain_tokens.specs.Plain.{Moves, kind_of};
 use super::classes::{is_letter, is_space, shown};
 use crate::references::reference_before;
 use crate::state::{Kind, Move, State, Tag};
+use crate::token_list::TokenList;
 use crate::word::Word;
-use crate::written::Written;
 use html_tokens::{Attributes, Memory};
 use std::alloc::Global;
 
-pub fn data(alloc: Global, out: &mut Written, c: char, text: &[char]) -> Result<Move, Memory>
+pub fn data(alloc: Global, out: &mut TokenList, c: char, text: &[char]) -> Result<Move, Memory>
     ensures { IfOk result (λ m. Moves m out.old out.new (look Data c text.now)) }
 {
     if c == '&' {
@@ -32,7 +32,13 @@ pub fn data(alloc: Global, out: &mut Written, c: char, text: &[char]) -> Result<
     }
 }
 
-pub fn rcdata(alloc: Global, out: &mut Written, last: Word, c: char, text: &[char]) -> Result<Move, Memory>
+pub fn rcdata(
+    alloc: Global,
+    out: &mut TokenList,
+    last: Word,
+    c: char,
+    text: &[char],
+) -> Result<Move, Memory>
     ensures { IfOk result (λ m. Moves m out.old out.new (look (Raw Rcdata last) c text.now)) }
 {
     if c == '&' {
@@ -47,7 +53,7 @@ pub fn rcdata(alloc: Global, out: &mut Written, last: Word, c: char, text: &[cha
     }
 }
 
-pub fn rawtext(alloc: Global, out: &mut Written, last: Word, c: char) -> Result<Move, Memory>
+pub fn rawtext(alloc: Global, out: &mut TokenList, last: Word, c: char) -> Result<Move, Memory>
     ensures { IfOk result (λ m. (text : List ℕ) → Moves m out.old out.new (look (Raw Rawtext last) c text)) }
 {
     if c == '<' {
@@ -58,7 +64,7 @@ pub fn rawtext(alloc: Global, out: &mut Written, last: Word, c: char) -> Result<
     }
 }
 
-pub fn script_data(alloc: Global, out: &mut Written, last: Word, c: char) -> Result<Move, Memory>
+pub fn script_data(alloc: Global, out: &mut TokenList, last: Word, c: char) -> Result<Move, Memory>
     ensures { IfOk result (λ m. (text : List ℕ) → Moves m out.old out.new (look (Raw Script last) c text)) }
 {
     if c == '<' {
@@ -69,14 +75,20 @@ pub fn script_data(alloc: Global, out: &mut Written, last: Word, c: char) -> Res
     }
 }
 
-pub fn plaintext(alloc: Global, out: &mut Written, c: char) -> Result<Move, Memory>
+pub fn plaintext(alloc: Global, out: &mut TokenList, c: char) -> Result<Move, Memory>
     ensures { IfOk result (λ m. (text : List ℕ) → Moves m out.old out.new (look Plaintext c text)) }
 {
     out.push_char(alloc, shown(c))?;
     Ok(Move::Go(State::Plaintext))
 }
 
-pub fn raw_less(alloc: Global, out: &mut Written, kind: Kind, last: Word, c: char) -> Result<Move, Memory>
+pub fn raw_less(
+    alloc: Global,
+    out: &mut TokenList,
+    kind: Kind,
+    last: Word,
+    c: char,
+) -> Result<Move, Memory>
     ensures { IfOk result (λ m. (text : List ℕ) → Moves m out.old out.new (look (RawLess (kind_of kind) last) c text)) }
 {
     if c == '/' {
@@ -91,7 +103,13 @@ pub fn raw_less(alloc: Global, out: &mut Written, kind: Kind, last: Word, c: cha
     }
 }
 
-pub fn raw_end_open(alloc: Global, out: &mut Written, kind: Kind, last: Word, c: char) -> Result<Move, Memory>
+pub fn raw_end_open(
+    alloc: Global,
+    out: &mut TokenList,
+    kind: Kind,
+    last: Word,
+    c: char,
+) -> Result<Move, Memory>
     ensures { IfOk result (λ m. (text : List ℕ) → Moves m out.old out.new (look (RawEndOpen (kind_of kind) last) c text)) }
 {
     if is_letter(c) {
@@ -104,7 +122,14 @@ pub fn raw_end_open(alloc: Global, out: &mut Written, kind: Kind, last: Word, c:
 }
 
 /// An end tag of the last start tag's name ends the raw text; else what was read is text.
-pub fn raw_end_name(alloc: Global, out: &mut Written, kind: Kind, last: Word, mut letters: Word, c: char) -> Result<Move, Memory>
+pub fn raw_end_name(
+    alloc: Global,
+    out: &mut TokenList,
+    kind: Kind,
+    last: Word,
+    mut letters: Word,
+    c: char,
+) -> Result<Move, Memory>
     ensures { IfOk result (λ m. (text : List ℕ) → Moves m out.old out.new (look (RawEndName (kind_of kind) last letters) c text)) }
 {
     if is_letter(c) {
@@ -127,7 +152,13 @@ pub fn raw_end_name(alloc: Global, out: &mut Written, kind: Kind, last: Word, mu
 }
 
 /// What was no end tag is text.
-fn raw_text_again(alloc: Global, out: &mut Written, kind: Kind, last: Word, letters: Word) -> Result<Move, Memory>
+fn raw_text_again(
+    alloc: Global,
+    out: &mut TokenList,
+    kind: Kind,
+    last: Word,
+    letters: Word,
+) -> Result<Move, Memory>
     ensures { IfOk result (λ m. Moves m out.old out.new (Again (Raw (kind_of kind) last) (chars (less_than ∷ solidus ∷ letters)))) }
 {
     out.push_char(alloc, '<')?;

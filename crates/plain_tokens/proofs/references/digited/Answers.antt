@@ -1,4 +1,4 @@
-use Rattle.std.proofs.Common.{◌≡◌, ℕ, List, [], ◌∷◌, ◌+◌, ap, ◌∙◌, length, drop, arith}
+use Rattle.std.proofs.Common.{◌≡◌, ℕ, List, [], ◌∷◌, ◌+◌, ap, ◌∙◌, length, drop}
 use Rattle.html_tokens.specs.References.{Reference, semicolon_len}
 use Rattle.plain_tokens.proofs.Numbers.{of_digits-some}
 use Rattle.plain_tokens.proofs.references.digited.Goals as goal

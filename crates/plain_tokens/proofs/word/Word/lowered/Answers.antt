@@ -1,4 +1,4 @@
-use Rattle.std.proofs.Common.{ℕ, List, [], ◌∷◌, ◌++◌, ap, ◌∙◌}
+use Rattle.std.proofs.Common.{ℕ, [], ◌∷◌, ◌++◌, ap, ◌∙◌}
 use Rattle.std.proofs.lemmas.Str.{IsUtf8-past_char}
 use Rattle.plain_tokens.proofs.Texts.{lowered_step, lowered_done}
 use Rattle.plain_tokens.proofs.word.Word.lowered.Goals as goal

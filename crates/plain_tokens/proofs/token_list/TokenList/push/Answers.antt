@@ -2,7 +2,7 @@ use Rattle.std.proofs.Common.{List, ◌++◌, ap, ◌∙◌}
 use Rattle.html_tokens.specs.Token.{Token}
 use Rattle.html_tokens.specs.Held.{meaning, meanings}
 use Rattle.plain_tokens.proofs.Texts.{meanings-push}
-use Rattle.plain_tokens.proofs.written.Written.push.Goals as goal
+use Rattle.plain_tokens.proofs.token_list.TokenList.push.Goals as goal
 
 pub returns : goal.returns
 returns c =

@@ -12,11 +12,11 @@ use std::marker::Model;
 
 /// Tokens in their order, seen as the tokens of the definition that they stand for.
 #[derive(Drop)]
-pub struct Written {
+pub struct TokenList {
     tokens: Vec<Token>,
 }
 
-impl Model for Written {
+impl Model for TokenList {
     ghost use Rattle.std.specs.Prelude.{List};
     ghost use Rattle.html_tokens.specs.Token.{Token};
     ghost use Rattle.html_tokens.specs.Held.{meanings};
@@ -26,11 +26,11 @@ impl Model for Written {
     ghost view = { λ w. meanings w.tokens.items };
 }
 
-impl Written {
+impl TokenList {
     pub fn new(alloc: Global) -> Self
         ensures { result ≡ [] }
     {
-        Written {
+        TokenList {
             tokens: Vec::new(alloc),
         }
     }
@@ -38,7 +38,7 @@ impl Written {
     pub fn into_tokens(self) -> Vec<Token>
         ensures { meanings result.items ≡ self }
     {
-        let Written { tokens } = self;
+        let TokenList { tokens } = self;
         tokens
     }
 
