@@ -4,5 +4,6 @@ mod RawTextExamples
 mod CommentExamples
 mod ReferenceExamples
 mod EndExamples
-mod Looks
+pub mod Looks
+pub mod Texts
 pub mod Pairs

@@ -5,3 +5,4 @@ pub mod References
 pub mod States
 pub mod Rows
 pub mod Tokenizer
+pub mod Held

@@ -5,7 +5,7 @@ use Rattle.html_tokens.specs.Token.{Token}
 use Rattle.html_tokens.specs.Token.Token.{Char, Comment, Doctype}
 use Rattle.html_tokens.specs.Characters.{exclamation_mark, quotation_mark, ampersand, apostrophe, hyphen, solidus, less_than, equals_sign, greater_than, question_mark, is_letter, is_space, lower}
 use Rattle.html_tokens.specs.References.{reference, begins}
-use Rattle.html_tokens.specs.States.{Tag, Kind, State, Move, same, new_tag, named_on, keep, keep_flag, emit, shown, on, lowered_on}
+use Rattle.html_tokens.specs.States.{Tag, Kind, State, Move, is_script, same, new_tag, named_on, keep, keep_flag, emit, shown, on, lowered_on}
 use Rattle.html_tokens.specs.States.Kind.{Rcdata, Rawtext, Script, Escaped}
 use Rattle.html_tokens.specs.States.State.{Data, Plaintext, TagOpen, EndTagOpen, Raw, RawLess, RawEndOpen, RawEndName, EscapeStart, EscapeStartDash, EscapedDash, EscapedDashDash, EscapedLess, DoubleStart, DoubleEscaped, DoubleDash, DoubleDashDash, DoubleLess, DoubleEnd, TagName, BeforeName, AttributeName, AfterName, BeforeValue, QuotedValue, UnquotedValue, AfterValue, SelfClosing, Bogus, CommentStart, CommentStartDash, CommentBody, CommentEndDash, CommentEnd, CommentEndBang, Markup, DoctypeBody}
 use Rattle.html_tokens.specs.States.Move.{Go, Past, Again}
@@ -23,7 +23,7 @@ one c = Char (shown c) ∷ []
 abbrev pub raw_end_name : Kind → List ℕ → List ℕ → ℕ → Move
 raw_end_name kind last letters c =
     let tag : Tag = record { is_end = true; name = map lower letters; attributes = [] } in
-    let is_end = same (map lower letters) last in
+    let is_end = same last (map lower letters) in
     if is_letter c then Go (RawEndName kind last (letters ++ c ∷ [])) []
     else (if is_end && is_space c then Go (BeforeName tag) []
     else (if is_end && c == solidus then Go (SelfClosing tag) []
@@ -32,7 +32,7 @@ raw_end_name kind last letters c =
 
 -- the end of the letters of a double escape: one state where they are `script`, the other where they are not
 abbrev pub after_letters : State → State → List ℕ → State
-after_letters script other letters = if same (map lower letters) (codes "script") then script else other
+after_letters script other letters = if same (codes "script") (map lower letters) then script else other
 
 -- the state, the character, and the text after it
 unfoldable pub look : State → ℕ → List ℕ → Move
@@ -82,16 +82,12 @@ look (TagName tag) c text =
     else (if c == greater_than then emit tag
     else Go (TagName (named_on tag (shown c))) []))
 --
--- 13.2.5.15 Script data less-than sign state
-look (RawLess Script last) c text =
-    if c == solidus then Go (RawEndOpen Script last) []
-    else (if c == exclamation_mark then Go (EscapeStart last) (chars (less_than ∷ exclamation_mark ∷ []))
-    else Again (Raw Script last) (Char less_than ∷ []))
---
--- 13.2.5.9 RCDATA and 13.2.5.12 RAWTEXT less-than sign state. Escaped script data has a row of its own, EscapedLess.
+-- 13.2.5.9 RCDATA, 13.2.5.12 RAWTEXT and 13.2.5.15 script data less-than sign state. Escaped script data has a row of its own
+-- in place of this one, EscapedLess.
 look (RawLess kind last) c text =
     if c == solidus then Go (RawEndOpen kind last) []
-    else Again (Raw kind last) (Char less_than ∷ [])
+    else (if is_script kind && c == exclamation_mark then Go (EscapeStart last) (chars (less_than ∷ exclamation_mark ∷ []))
+    else Again (Raw kind last) (Char less_than ∷ []))
 --
 -- 13.2.5.10 RCDATA, 13.2.5.13 RAWTEXT, 13.2.5.16 script data and 13.2.5.24 script data escaped end tag open state
 look (RawEndOpen kind last) c text =

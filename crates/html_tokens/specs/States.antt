@@ -1,5 +1,5 @@
 -- What the tokenizer remembers between two characters, and what a row of its table says.
-use Rattle.std.specs.Prelude.{ℕ, Bool, false, ◌||◌, ◌==◌, if◌then◌else◌, List, [], ◌∷◌, ◌++◌, codes, bytes_eq}
+use Rattle.std.specs.Prelude.{ℕ, Bool, true, false, ◌||◌, ◌==◌, if◌then◌else◌, List, [], ◌∷◌, ◌++◌, codes, bytes_eq}
 use Rattle.std.specs.List.{list_any}
 use Rattle.html_tokens.specs.Token.{Attribute, Token}
 use Rattle.html_tokens.specs.Token.Token.{Start, End}
@@ -15,6 +15,12 @@ pub record Tag : Type 0 where
 -- end tag open and an end tag name state in the Standard, which differ only in where they go back to.
 pub data Kind : Type 0 where
   Rcdata Rawtext Script Escaped : Kind
+
+abbrev pub is_script : Kind → Bool
+is_script Script = true
+is_script Rcdata = false
+is_script Rawtext = false
+is_script Escaped = false
 
 -- A state of the Standard, and with it what is being read there: `last` is the name of the last start tag, `letters` is the
 -- temporary buffer, `name` and `value` are the attribute's, `comment` is the comment's text so far.

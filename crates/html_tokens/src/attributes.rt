@@ -1,6 +1,7 @@
 //! The attributes of a start tag.
 ghost use Rattle.std.specs.Prelude.{◌≡◌, ℕ, ◌<◌, ◌↔◌, List, [], ◌∷◌, ◌++◌, length, chars, encode_utf8_all, IsTrue, OnOk, OnErr};
 ghost use Rattle.html_tokens.specs.Token.{name_at, value_at, Attribute};
+ghost use Rattle.html_tokens.specs.States.{has_name};
 
 use crate::Memory;
 use std::alloc::Global;
@@ -52,6 +53,18 @@ impl Attributes {
         ensures { IsTrue result ↔ (self.now ≡ []) }
     {
         self.pairs.is_empty()
+    }
+
+    /// Whether one of the attributes has this name.
+    pub fn contains(&self, name: &str) -> bool
+        ensures { result ≡ has_name (chars name.now) self.now }
+    {
+        for (known, _) in &self.pairs {
+            if known.as_str() == name {
+                return true;
+            }
+        }
+        false
     }
 
     /// The name of the attribute at a place; the first is at 0.

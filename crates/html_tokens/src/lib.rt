@@ -6,7 +6,9 @@
 
 pub mod attributes;
 pub mod laws;
+pub mod token;
 
 pub use attributes::Attributes;
 pub use laws::three_looks_suffice;
 pub use std::alloc::AllocError as Memory;
+pub use token::Token;

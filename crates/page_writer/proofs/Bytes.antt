@@ -6,7 +6,6 @@ use Rattle.std.proofs.lemmas.Str.{encodes-append, encodes-chars, encode_ascii, s
 use Rattle.std.proofs.lemmas.Grind.{flat_map-append}
 use Rattle.std.proofs.lemmas.Bool.Decides.{nat_tests}
 use Rattle.std.proofs.lemmas.List.Folds.{list_all_more}
-use Rattle.std.proofs.Math.Seq.{take-append_seam}
 use Rattle.std.specs.List.{flat_map, AllByRecursion}
 use Rattle.html_tokens.specs.Token.{Attribute, name_at, value_at, none}
 use Rattle.html_tokens.specs.Token.Token.{Start, End}
@@ -20,18 +19,12 @@ use lib.Utf8.{encode, encodes, scalars}
 
 -- ---- bytes in front
 
-pub extends : (old new more : List ℕ) → new ≡ old ++ more → Extends old new
-extends old new more e = record { more = more; is = e }
-
 pub Extends-same : (old new : List ℕ) → new ≡ old → Extends old new
 Extends-same old new e = record { more = []; is = e ∙ sym (append-nil old) }
 
 pub Extends-trans : (a b c : List ℕ) → Extends a b → Extends b c → Extends a c
 Extends-trans a b c g h =
     record { more = g.more ++ h.more; is = h.is ∙ ap (λ (x : List ℕ). x ++ h.more) g.is ∙ append_assoc a g.more h.more }
-
-pub take-Extends : (old new : List ℕ) → Extends old new → take (length old) new ≡ old
-take-Extends old new h = ap (λ (x : List ℕ). take (length old) x) h.is ∙ take-append_seam old h.more
 
 -- ---- the bytes of a text
 

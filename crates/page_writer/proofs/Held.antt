@@ -9,7 +9,7 @@ use Rattle.page_writer.specs.Page.{IsShown, spell, spell_char, spell_chars, spel
 use Rattle.page_writer.specs.Bytes.{AreTexts}
 use Rattle.page_writer.specs.Tables.{Name, is_attribute_name}
 use Rattle.std.specs.List.{AllByRecursion, list_all}
-use Rattle.page_writer.specs.Writer.{Page, page_of, added, with_text, IsHeld, shown_tokens, shown_values}
+use Rattle.page_writer.specs.Writer.{Page, page_of, IsHeld, shown_tokens, shown_values}
 use Rattle.page_writer.proofs.Facts.{and_true}
 use Rattle.page_writer.proofs.Law.{law_of_bytes}
 
@@ -123,23 +123,6 @@ on_ok (Err e) P h = tt
 pub from_ok : {T E : Type 0} (r : Result T E) (P : Type 0) → OnOk r P → is_ok r ≡ true → P
 from_ok (Ok x) P h e = h
 from_ok (Err x) P h e = absurd cc
-
--- the text grew, or it stayed
-pub held_if : (grew : Bool) (bytes new more : List ℕ) (opened : List (List ℕ)) → new ≡ cond grew (bytes ++ more) bytes → IsHeld bytes opened → IsHeld (bytes ++ more) opened → IsHeld new opened
-held_if true bytes new more opened e stays grows = subst (λ (b : List ℕ). IsHeld b opened) (sym e) grows
-held_if false bytes new more opened e stays grows = subst (λ (b : List ℕ). IsHeld b opened) (sym e) stays
-
-pub grown : (grew : Bool) (bytes new more : List ℕ) → grew ≡ true → new ≡ cond grew (bytes ++ more) bytes → new ≡ bytes ++ more
-grown true bytes new more h e = e
-grown false bytes new more h e = absurd cc
-
-pub page_added : (bytes new : List ℕ) (opened after : List (List ℕ)) (t : Token) (self : Page) → page_of bytes opened ≡ self → Adds bytes (t ∷ []) new after → after ≡ inside_after opened t → page_of new after ≡ added self t
-page_added bytes new opened after t self is a e =
-    ap (λ (l : List Token). record { written = l; opened = after }) a.tokens ∙ ap (λ (n : List (List ℕ)). record { written = tokens_of_bytes bytes ++ t ∷ []; opened = n }) e ∙ ap (λ (p : Page). added p t) is
-
-pub page_with_text : (bytes new : List ℕ) (opened : List (List ℕ)) (cs : List ℕ) (self : Page) → page_of bytes opened ≡ self → Adds bytes (shown_tokens cs) new opened → page_of new opened ≡ with_text self cs
-page_with_text bytes new opened cs self is a =
-    ap (λ (l : List Token). record { written = l; opened = opened }) a.tokens ∙ ap (λ (p : Page). with_text p cs) is
 
 pub doctype_adds : (bytes : List ℕ) (opened : List (List ℕ)) → IsHeld bytes opened → MayCome opened Doctype → Adds bytes (Doctype ∷ []) (bytes ++ codes "<!DOCTYPE html>") opened
 unfolding encode

@@ -5,7 +5,9 @@ pub mod Law
 pub mod Held
 pub mod Bytes
 pub mod Opening
+pub mod Adding
 pub mod Nesting
 pub mod Parts
 pub mod Mail
 mod Examples
+mod TextPage

@@ -10,17 +10,9 @@ use Rattle.page_writer.specs.Message.{is_message_token, is_message, is_message_a
 use Rattle.page_writer.specs.Frame.{is_frame_token, is_frame, opens_mail, is_of_class}
 use Rattle.page_writer.specs.Allowed.{IsAllowed}
 use Rattle.page_writer.proofs.Facts.{and_true, no_of, same-true}
-use Rattle.page_writer.proofs.Parts.{all_both, both_true}
+use Rattle.page_writer.proofs.Parts.{all_both, both_true, or_left, or_right}
 
 -- ---- each token is known
-
-or_left : (a b : Bool) → a ≡ true → (a || b) ≡ true
-or_left true b e = refl
-or_left false b e = absurd cc
-
-or_right : (a b : Bool) → b ≡ true → (a || b) ≡ true
-or_right true b e = refl
-or_right false b e = e
 
 known : (images : Bool) (own : List ℕ → Bool) → Token → Bool
 known images own t = is_frame_token t || is_message_token images own t

@@ -57,6 +57,10 @@ unfolding loads
 loads-text [] = refl
 loads-text (c ∷ cs) = loads-text cs
 
+-- a text loads nothing, whatever follows it
+pub loads-past_text : (cs : List ℕ) (ts : List Token) → loads (shown_tokens cs ++ ts) ≡ loads ts
+loads-past_text cs ts = loads-append (shown_tokens cs) ts ∙ ap (λ (xs : List (List ℕ)). xs ++ loads ts) (loads-text cs)
+
 -- addresses that an allowed page may load
 abbrev pub AreLoadable : Bool → (List ℕ → Bool) → List (List ℕ) → Type 0
 AreLoadable images own addresses = AllByRecursion (λ a. may_load images own a ≡ true) addresses
@@ -69,11 +73,11 @@ loadable-if : (images : Bool) (own : List ℕ → Bool) (loading : Bool) (addres
 loadable-if images own true address h = (h refl, tt)
 loadable-if images own false address h = tt
 
-or_right : (a b : Bool) → b ≡ true → (a || b) ≡ true
+pub or_right : (a b : Bool) → b ≡ true → (a || b) ≡ true
 or_right true b e = refl
 or_right false b e = e
 
-or_left : (a b : Bool) → a ≡ true → (a || b) ≡ true
+pub or_left : (a b : Bool) → a ≡ true → (a || b) ≡ true
 or_left true b e = refl
 or_left false b e = absurd cc
 

@@ -2,12 +2,13 @@
 use Rattle.std.specs.Prelude.{◌≡◌, ℕ, ◌==◌, if◌then◌else◌, List, [], ◌∷◌, ◌++◌, codes, encode_utf8_all, IsTrue}
 use Rattle.std.specs.List.{flat_map, list_all}
 use Rattle.std.proofs.Math.Utf8.{scalars}
+use Rattle.html_tokens.specs.Characters.{null}
 use Rattle.html_tokens.specs.Token.{Attribute}
 use Rattle.page_writer.specs.Page.{spell_char, spell_chars}
 
 -- what is written for a byte of a text in UTF-8; U+FFFD is the bytes EF BF BD
 abbrev pub spell_byte : ℕ → List ℕ
-spell_byte b = if b == 0 then 0xEF ∷ 0xBF ∷ 0xBD ∷ [] else spell_char b
+spell_byte b = if b == null then 0xEF ∷ 0xBF ∷ 0xBD ∷ [] else spell_char b
 
 unfoldable pub spell_bytes : List ℕ → List ℕ
 spell_bytes bytes = flat_map spell_byte bytes

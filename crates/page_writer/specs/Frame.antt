@@ -1,17 +1,21 @@
 -- The tokens that the frame of a page may have: all that does not come from a message.
 use Rattle.std.specs.Prelude.{ℕ, Bool, true, false, not, ◌&&◌, ◌||◌, ◌==◌, if◌then◌else◌, List, [], ◌∷◌, codes}
 use Rattle.std.specs.List.{list_all, list_any}
+use Rattle.html_tokens.specs.Characters.{tabulation, line_feed, carriage_return, solidus}
 use Rattle.html_tokens.specs.Token.{Attribute, Token}
 use Rattle.html_tokens.specs.Token.Token.{Start, End, Char, Comment, Doctype}
 use Rattle.html_tokens.specs.Tokenizer.{same, is_among}
 use Rattle.page_writer.specs.Tables.{Name, words, is_element, is_frame_attribute}
 
+abbrev pub reverse_solidus : ℕ
+reverse_solidus = 0x5C
+
 -- An address on the site itself: `/`, and then neither `/` nor `\`, which would begin the name of another site, nor a TAB, LF
 -- or CR, which an address loses when it is read (URL Standard, 4.4).
 abbrev pub is_local : List ℕ → Bool
 is_local [] = false
-is_local (c ∷ []) = c == 47
-is_local (c ∷ d ∷ cs) = c == 47 && not (d == 47 || d == 92 || d == 9 || d == 10 || d == 13)
+is_local (c ∷ []) = c == solidus
+is_local (c ∷ d ∷ cs) = c == solidus && not (d == solidus || d == reverse_solidus || d == tabulation || d == line_feed || d == carriage_return)
 
 abbrev pub style_sheet : List ℕ
 style_sheet = codes "/site.css"

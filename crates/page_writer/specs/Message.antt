@@ -1,6 +1,7 @@
 -- The tokens that a message may have.
 use Rattle.std.specs.Prelude.{ℕ, Bool, false, not, ◌&&◌, ◌||◌, ◌==◌, if◌then◌else◌, List, codes}
 use Rattle.std.specs.List.{list_all}
+use Rattle.html_tokens.specs.Characters.{null}
 use Rattle.html_tokens.specs.Token.{Attribute, Token}
 use Rattle.html_tokens.specs.Token.Token.{Start, End, Char, Comment, Doctype}
 use Rattle.html_tokens.specs.Tokenizer.{same, has_name}
@@ -29,7 +30,7 @@ unfoldable pub is_message_token : Bool → (List ℕ → Bool) → Token → Boo
 is_message_token images own (Start name attributes) =
     is_message_element name && list_all (is_message_attribute images own name) attributes && is_marked attributes
 is_message_token images own (End name) = is_message_element name && not (is_void name)
-is_message_token images own (Char c) = not (c == 0)
+is_message_token images own (Char c) = not (c == null)
 is_message_token images own (Comment text) = false
 is_message_token images own Doctype = false
 

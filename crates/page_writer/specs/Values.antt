@@ -1,13 +1,19 @@
 -- The values that the attributes of a message may have.
 use Rattle.std.specs.Prelude.{ℕ, zero, suc, Bool, true, false, not, ◌&&◌, ◌||◌, ◌==◌, nat_le, if◌then◌else◌, Option, Some, None, List, [], ◌∷◌, length, codes}
 use Rattle.std.specs.List.{list_all}
-use Rattle.html_tokens.specs.Characters.{is_between, is_digit, is_letter}
+use Rattle.html_tokens.specs.Characters.{null, space, hyphen, number_sign, is_between, is_digit, is_letter}
 use Rattle.html_tokens.specs.References.{begins}
 use Rattle.page_writer.specs.Tables.{Name, kind_of}
 use Rattle.page_writer.specs.declared.Kind.{Kind}
 use Rattle.page_writer.specs.declared.Kind.TheVariants.{Number, Word, Flag, Text, Link, Source, Style}
 
 -- ---- numbers and words
+
+abbrev pub percent_sign : ℕ
+percent_sign = 0x25
+
+abbrev pub plus_sign : ℕ
+plus_sign = 0x2B
 
 abbrev pub is_nothing : List ℕ → Bool
 is_nothing [] = true
@@ -16,8 +22,8 @@ is_nothing (c ∷ cs) = false
 -- up to so many digits, and an optional `%`
 abbrev pub are_digits : ℕ → List ℕ → Bool
 are_digits n [] = true
-are_digits zero (c ∷ cs) = c == 37 && is_nothing cs
-are_digits (suc n) (c ∷ cs) = (is_digit c && are_digits n cs) || (c == 37 && is_nothing cs)
+are_digits zero (c ∷ cs) = c == percent_sign && is_nothing cs
+are_digits (suc n) (c ∷ cs) = (is_digit c && are_digits n cs) || (c == percent_sign && is_nothing cs)
 
 -- 1 to 5 digits, and an optional `%`
 abbrev pub some_digits : List ℕ → Bool
@@ -27,10 +33,10 @@ some_digits (c ∷ cs) = is_digit c && are_digits 4 cs
 -- an optional `+` or `-`, 1 to 5 digits, an optional `%`
 unfoldable pub is_number : List ℕ → Bool
 is_number [] = false
-is_number (c ∷ cs) = if c == 43 || c == 45 then some_digits cs else some_digits (c ∷ cs)
+is_number (c ∷ cs) = if c == plus_sign || c == hyphen then some_digits cs else some_digits (c ∷ cs)
 
 abbrev pub is_word_char : ℕ → Bool
-is_word_char c = is_letter c || is_digit c || c == 45 || c == 35
+is_word_char c = is_letter c || is_digit c || c == hyphen || c == number_sign
 
 -- 1 to 32 ASCII letters, digits, `-` and `#`
 unfoldable pub is_word : List ℕ → Bool
@@ -40,7 +46,7 @@ is_word cs = nat_le 1 (length cs) && nat_le (length cs) 32 && list_all is_word_c
 
 -- neither a space nor a control (U+0000 to U+001F and U+007F to U+009F)
 abbrev pub is_address_char : ℕ → Bool
-is_address_char c = not (is_between 0 32 c || is_between 127 159 c)
+is_address_char c = not (is_between null space c || is_between 0x7F 0x9F c)
 
 -- an address of the web
 unfoldable pub is_remote : List ℕ → Bool

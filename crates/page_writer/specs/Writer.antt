@@ -27,6 +27,11 @@ pub record IsHeld (bytes : List ℕ) (opened : List Name) : Type 0 where
 abbrev pub added : Page → Token → Page
 added page t = record { written = page.written ++ t ∷ []; opened = inside_after page.opened t }
 
+-- the page with these tokens more
+abbrev pub added_all : Page → List Token → Page
+added_all page [] = page
+added_all page (t ∷ ts) = added_all (added page t) ts
+
 -- the characters of a text, U+0000 as U+FFFD
 abbrev pub shown_tokens : List ℕ → List Token
 shown_tokens [] = []

@@ -13,9 +13,13 @@ plain name = Start name []
 abbrev pub with : Name → Name → List ℕ → Token
 with name attribute value = Start name (record { name = attribute; value = value } ∷ [])
 
--- A function that writes elements and attributes by names that stand in its code as texts needs no proof file under the line
+-- A function that writes elements and attributes by names that stand in its code as texts has the line
 --     #[tactic(auto, unfolding(page_writer::specs::Writing::literals))]
--- since its goals then compute these names. The functions that it calls take `MayStart` for names that they are passed.
+-- and its goals then compute these names. The functions that it calls take `MayStart` for names that they are passed. Up to
+-- about a dozen calls it needs no proof file. For more, what it ensures is one answer, the calls' equations from the last to
+-- the first:
+--     unfolding literals
+--     returns c = c.finish.ensures.reads ∙ rw (c.in_ok-end-2.ensures.ok, .., c.in_ok-doctype.ensures.ok, c.new-out.ensures.written) (simp append_assoc)
 unfoldable pub literals : Unit {0}
 unfolding chars message_elements frame_elements message_voids frame_voids text_elements is_element is_void is_text common_attributes attribute_rows link_attributes frame_attributes is_attribute_name
 literals = tt

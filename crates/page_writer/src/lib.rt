@@ -25,25 +25,6 @@ pub use std::alloc::AllocError as Memory;
 use std::alloc::Global;
 use std::marker::Model;
 
-/// The kinds of value that the attributes of a message have.
-#[derive(Clone, Copy, Debug, PartialEq, Eq)]
-pub enum Kind {
-    /// An optional sign, 1 to 5 digits, an optional `%`.
-    Number,
-    /// 1 to 32 ASCII letters, digits, `-` and `#`.
-    Word,
-    /// Nothing: the attribute says it all by being there.
-    Flag,
-    /// Any text.
-    Text,
-    /// An address to which a click leads.
-    Link,
-    /// An address from which a picture is loaded.
-    Source,
-    /// Declarations of CSS.
-    Style,
-}
-
 /// A page that is being written, seen as the tokens written so far and the names of the open elements.
 ///
 /// Text and attribute values may hold any characters; U+0000 is written, and counts, as U+FFFD. Each call leaves the page as
@@ -136,4 +117,23 @@ impl PageOut {
         let PageOut { bytes, inside } = self;
         bytes
     }
+}
+
+/// The kinds of value that the attributes of a message have. The tables of the definitions say which attribute has which.
+#[derive(Clone, Copy, Debug, PartialEq, Eq)]
+pub enum Kind {
+    /// An optional sign, 1 to 5 digits, an optional `%`.
+    Number,
+    /// 1 to 32 ASCII letters, digits, `-` and `#`.
+    Word,
+    /// Nothing: the attribute says it all by being there.
+    Flag,
+    /// Any text.
+    Text,
+    /// An address to which a click leads.
+    Link,
+    /// An address from which a picture is loaded.
+    Source,
+    /// Declarations of CSS.
+    Style,
 }

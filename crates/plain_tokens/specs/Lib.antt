@@ -1,0 +1,4 @@
+pub mod Entries
+pub mod Literals
+pub mod Plain
+pub mod Read
