@@ -1,0 +1,4 @@
+pub mod Base64Lemmas
+pub mod QuotedLemmas
+pub mod Places
+pub mod Examples

@@ -1,0 +1,4 @@
+pub mod Base64
+pub mod Charsets
+pub mod Codings
+pub mod Quoted

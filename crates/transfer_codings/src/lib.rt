@@ -1,0 +1,12 @@
+//! The codings in which mail carries bytes (RFC 2045 section 6), and the charsets in which the bytes
+//! are text.
+#![tactic(auto)]
+
+mod base64_text;
+pub mod charset;
+pub mod coding;
+mod quoted_text;
+
+pub use charset::{Charset, charset_of, text_of};
+pub use coding::{Coding, decode};
+pub use std::alloc::AllocError as Memory;
