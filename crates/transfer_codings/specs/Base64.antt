@@ -1,6 +1,8 @@
 -- Base64 (RFC 4648, section 4) as mail reads it (RFC 2045, section 6.8).
-use Rattle.std.specs.Prelude.{◌≡◌, ℕ, ◌+◌, ◌*◌, ◌/◌, ◌%◌, ◌<◌, ◌≤◌, ◌==◌, Bool, List, [], ◌∷◌, length, codes, Option}
-use Rattle.std.specs.List.{position, filter_map, before_first}
+use Rattle.std.specs.Prelude.{◌≡◌, ℕ, ◌+◌, ◌*◌, ◌/◌, ◌%◌, ◌<◌, ◌≤◌, ◌==◌, Bool, List, [], ◌∷◌, ◌++◌, length, take, drop, codes, Option}
+use Rattle.std.specs.List.{position, filter_map, flat_map, before_first, range_with_len}
+use Rattle.base64.specs.Engines.{standard}
+use Rattle.base64.specs.GeneralPurpose.{encode_of}
 
 -- the characters, in the order of the values that they stand for
 abbrev pub alphabet : List ℕ
@@ -31,6 +33,22 @@ is_equals character = character == 61
 -- what a base64 text decodes to: the bytes of the sextets before the first `=`
 abbrev pub base64_bytes : List ℕ → List ℕ
 base64_bytes text = bytes_of (sextets (before_first is_equals text))
+
+-- a line of the base64 text of bytes: their encoding (RFC 4648, section 4), and CR LF
+unfoldable pub base64_line : List ℕ → List ℕ
+base64_line bytes = encode_of standard bytes ++ 13 ∷ 10 ∷ []
+
+-- the bytes of a line, by its number: 57 of them, or fewer in the last line
+abbrev pub line_piece : List ℕ → ℕ → List ℕ
+line_piece bytes number = take 57 (drop (57 * number) bytes)
+
+-- so many lines of the base64 text of bytes, from the one with this number on
+unfoldable pub base64_lines : List ℕ → ℕ → ℕ → List ℕ
+base64_lines bytes first count = flat_map (λ number. base64_line (line_piece bytes number)) (range_with_len first count)
+
+-- the base64 text of bytes, in lines
+abbrev pub base64_text : List ℕ → List ℕ
+base64_text bytes = base64_lines bytes 0 ((length bytes + 56) / 57)
 
 -- a text has these four sextets first, and then those of the rest, which is shorter by four
 -- characters at least

@@ -1,9 +1,11 @@
 //! Base64 (RFC 4648 §4).
 
-ghost use Rattle.std.specs.Prelude.{◌≡◌, ◌∷◌, ◌++◌, [], ◌+◌, ◌*◌, ◌≤◌, ◌<◌, MatchOption, IfOk, length, take};
-ghost use Rattle.std.specs.List.{before_first};
-ghost use Rattle.transfer_codings.specs.Base64.{HasFour, base64_bytes, bytes_of, is_equals, sextet_of, sextets};
+ghost use Rattle.std.specs.Prelude.{◌≡◌, ◌∷◌, ◌++◌, [], ◌+◌, ◌*◌, ◌≤◌, ◌<◌, MatchOption, IfOk, OnOk, length, take};
+ghost use Rattle.std.specs.List.{All, before_first};
+ghost use Rattle.std.specs.Str.Lines.{lines};
+ghost use Rattle.transfer_codings.specs.Base64.{HasFour, base64_bytes, base64_line, base64_text, bytes_of, is_equals, sextet_of, sextets};
 
+use base64::engine::general_purpose::STANDARD;
 use memchr::memchr;
 use std::alloc::{AllocError as Memory, Global};
 
@@ -33,6 +35,38 @@ pub(crate) fn decode(alloc: Global, text: &[u8]) -> Result<Vec<u8>, Memory>
     let size = read_sextets(text, bytes.as_mut_slice());
     bytes.truncate(size);
     Ok(bytes)
+}
+
+/// The base64 text of `bytes` in lines of 76 characters, of which only the last may be shorter. Each
+/// line ends in CR LF, and there is none where there are no bytes (RFC 2045 §6.8).
+pub fn encode_base64(alloc: Global, bytes: &[u8]) -> Result<Vec<u8>, Memory>
+    ensures text { IfOk result (λ text. text.items ≡ base64_text bytes.now) }
+    ensures decodes { IfOk result (λ text. base64_bytes text.items ≡ bytes.now) }
+    ensures lines { IfOk result (λ text. All (λ line. length line ≤ 76) (lines text.items)) }
+{
+    let count = bytes.len().div_ceil(57);
+    let mut text = Vec::with_capacity(alloc, 78 * count)?;
+    for number in 0..count {
+        let start = 57 * number;
+        let end = (start + 57).min(bytes.len());
+        push_line(&bytes[start..end], &mut text)?;
+    }
+    Ok(text)
+}
+
+// Adds a line of the base64 text.
+fn push_line(piece: &[u8], text: &mut Vec<u8>) -> Result<(), Memory>
+    requires { length piece.now ≤ 57 }
+    ensures ok { OnOk result (text.new.items ≡ text.old.items ++ base64_line piece.now) }
+{
+    let mut line = [0u8; 78];
+    let Ok(size) = STANDARD.encode_slice(piece, &mut line) else {
+        unreachable!();
+    };
+    line[size] = b'\r';
+    line[size + 1] = b'\n';
+    text.extend_from_slice(&line[..size + 2])?;
+    Ok(())
 }
 
 // The text up to its first `=`.

@@ -7,6 +7,7 @@ pub mod charset;
 pub mod coding;
 mod quoted_text;
 
+pub use base64_text::encode_base64;
 pub use charset::{Charset, charset_of, text_of};
 pub use coding::{Coding, decode};
 pub use std::alloc::AllocError as Memory;
