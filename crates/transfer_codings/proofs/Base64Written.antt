@@ -21,11 +21,11 @@ use Rattle.transfer_codings.proofs.Places.{take-set-two}
 
 -- ---- the characters of the alphabet
 
-abbrev is_value : Option ℕ → ℕ → Bool
+abbrev pub is_value : Option ℕ → ℕ → Bool
 is_value (Some sextet) value = sextet == value
 is_value None value = false
 
-is_value-some : (o : Option ℕ) (value : ℕ) → is_value o value ≡ true → o ≡ Some value
+pub is_value-some : (o : Option ℕ) (value : ℕ) → is_value o value ≡ true → o ≡ Some value
 is_value-some (Some sextet) value h = ap Some (eqb-true sextet value h)
 is_value-some None value h = cc
 

@@ -3,4 +3,7 @@ pub mod QuotedLemmas
 pub mod Places
 pub mod Examples
 pub mod Lines
+pub mod RowLemmas
+pub mod QuotedEnds
+pub mod QuotedWritten
 pub mod Base64Written
