@@ -1,8 +1,9 @@
 -- A text with escapes, step by step.
 use Rattle.std.proofs.Common.{◌≡◌, ℕ, ◌+◌, ◌-◌, ◌<◌, ◌≤◌, true, false, cond, List, [], ◌∷◌, ◌++◌, length, get_or, take, drop, Option, Some, None, refl, sym, ap, ◌∙◌, arith, inl, inr}
-use Rattle.std.specs.List.{slice_split, onto_first, flat_map, position_or_len, suffix_len}
-use Rattle.std.proofs.lemmas.List.{append-nil, append_assoc, get_or_default, nil_from_length}
-use Rattle.std.proofs.lemmas.List.Sums.{position_or_len_is}
+use Rattle.std.specs.List.{All, slice_split, onto_first, flat_map, position_or_len, suffix_len}
+use Rattle.std.proofs.lemmas.List.{append-nil, append_assoc, get_or-take, length-take, nil_from_length, take-append-drop}
+use Rattle.std.proofs.lemmas.List.Elements.{All-head, All-tail}
+use Rattle.std.proofs.lemmas.List.Sums.{fails_before_first}
 use Rattle.std.proofs.lemmas.List.Splits.{slice_split-cons_no, length-slice_split, slice_split_first, slice_split_none}
 use Rattle.std.proofs.lemmas.Bool.{cases_Bool, eqb-true}
 use Rattle.transfer_codings.specs.Base64.{is_equals}
@@ -90,19 +91,38 @@ pub unescaped-nothing : (front rest : List ℕ) → length rest < 1 → front �
 unfolding unescaped
 unescaped-nothing front rest short = let e : rest ≡ [] = nil_from_length rest (omega arith) in rw e (sym (append-nil front))
 
+plain_run : (front rest : List ℕ) → All (λ b. is_equals b ≡ false) front → unescaped (front ++ rest) ≡ front ++ unescaped rest
+plain_run [] rest plain = refl
+plain_run (b ∷ front) rest plain =
+    unescaped-plain b (front ++ rest) (All-head (λ x. is_equals x ≡ false) b front plain)
+    ∙ ap (λ xs. b ∷ xs) (plain_run front rest (All-tail (λ x. is_equals x ≡ false) b front plain))
+
+-- the text up to the next `=` stands for itself
+pub unescaped-run : (text : List ℕ) (run : ℕ) → run ≡ position_or_len is_equals text → unescaped text ≡ take run text ++ unescaped (drop run text)
+unescaped-run text run place =
+    ap unescaped (sym (take-append-drop run text))
+    ∙ plain_run (take run text) (drop run text) (λ k d below.
+    let within : k < run = omega (arith, length-take run text) in
+    let same : get_or (take run text) k d ≡ get_or text k d = get_or-take run text k d within in
+    ap is_equals same ∙ fails_before_first is_equals text k d (omega arith))
+
+pub unescaped-copied : (written front text rest : List ℕ) (run : ℕ) → run ≡ position_or_len is_equals text
+    → written ≡ front ++ take run text → rest ≡ drop run text → written ++ unescaped rest ≡ front ++ unescaped text
+unescaped-copied written front text rest run place w r =
+    ap (λ xs. xs ++ unescaped rest) w ∙ append_assoc front (take run text) (unescaped rest)
+    ∙ ap (λ xs. front ++ (take run text ++ unescaped xs)) r ∙ ap (λ xs. front ++ xs) (sym (unescaped-run text run place))
+
 -- ---- lines
 
-pub slice_split_cut : (text : List ℕ) (i : ℕ) → i < length text → ((k : ℕ) → k < i → is_line_feed (get_or text k 0) ≡ false)
-    → is_line_feed (get_or text i 0) ≡ true
-    → slice_split is_line_feed text ≡ take i text ∷ slice_split is_line_feed (drop (i + 1) text)
-slice_split_cut text i lt before at =
-    let place : position_or_len is_line_feed text ≡ i = position_or_len_is is_line_feed text i 0 (omega arith) before (λ _. at) in
-    let first = slice_split_first is_line_feed text 0 (omega arith) in
-    first ∙ ap (λ n. take n text ∷ slice_split is_line_feed (drop (n + 1) text)) place
+pub slice_split_cut : (text : List ℕ) (end : ℕ) → end ≡ position_or_len is_line_feed text → end < length text
+    → slice_split is_line_feed text ≡ take end text ∷ slice_split is_line_feed (drop (end + 1) text)
+slice_split_cut text end place below =
+    slice_split_first is_line_feed text 0 (omega arith)
+    ∙ ap (λ n. take n text ∷ slice_split is_line_feed (drop (n + 1) text)) (sym place)
 
-pub slice_split_whole : (text : List ℕ) → ((k : ℕ) → k < length text → is_line_feed (get_or text k 0) ≡ false)
-    → slice_split is_line_feed text ≡ text ∷ []
-slice_split_whole text before = slice_split_none is_line_feed text (λ k d below. let e = get_or_default text k d 0 below in rw e (before k below))
+pub slice_split_whole : (text : List ℕ) → position_or_len is_line_feed text ≡ length text → slice_split is_line_feed text ≡ text ∷ []
+slice_split_whole text place =
+    slice_split_none is_line_feed text (λ k d below. fails_before_first is_line_feed text k d (omega arith))
 
 lines_bytes-more : (line : List ℕ) (parts : List (List ℕ)) → 0 < length parts → lines_bytes (line ∷ parts) ≡ broken_line line ++ lines_bytes parts
 lines_bytes-more line [] some = absurd (omega arith)

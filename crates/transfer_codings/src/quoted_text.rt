@@ -1,9 +1,10 @@
 //! Quoted-printable (RFC 2045 §6.7).
 
-ghost use Rattle.std.specs.Prelude.{◌≡◌, ◌∷◌, ◌++◌, [], ◌+◌, ◌≤◌, ◌<◌, MatchOption, IfOk, true, false, length, take};
-ghost use Rattle.std.specs.List.{slice_split};
+ghost use Rattle.std.specs.Prelude.{◌≡◌, ◌==◌, ◌∷◌, ◌++◌, [], ◌+◌, ◌≤◌, ◌<◌, MatchOption, IfOk, true, false, length, take};
+ghost use Rattle.std.specs.List.{position_or_len, slice_split};
 ghost use Rattle.transfer_codings.specs.Quoted.{broken_line, ends_in, escaped_byte, hex_value, is_blank, is_line_feed, line_bytes, quoted_bytes, unescaped, without_blanks, without_last};
 
+use memchr::memchr;
 use std::alloc::{AllocError as Memory, Global};
 
 /// The bytes of a quoted-printable text.
@@ -36,12 +37,29 @@ fn split_line(text: &[u8]) -> Option<(&[u8], &[u8])>
         (λ cut. (slice_split is_line_feed text.now ≡ cut.0.now ∷ slice_split is_line_feed cut.1.now)
         × (length cut.0.now + length cut.1.now + 1 ≡ length text.now)) }
 {
-    for (i, byte) in text.iter().enumerate() {
-        if *byte == b'\n' {
-            return Some((&text[..i], &text[i + 1..]));
+    let end = find(b'\n', text);
+    if end == text.len() {
+        return None;
+    }
+    Some((&text[..end], &text[end + 1..]))
+}
+
+// Where `byte` first stands, or the end. It tries a few bytes by hand, since lines and the text
+// between escapes may be short.
+fn find(byte: u8, text: &[u8]) -> usize
+    ensures place { result ≡ position_or_len (λ x. x == byte) text.now }
+    ensures bound { result ≤ length text.now }
+{
+    let near = text.len().min(16);
+    for i in 0..near {
+        if text[i] == byte {
+            return i;
         }
     }
-    None
+    match memchr(byte, &text[near..]) {
+        Some(i) => near + i,
+        None => text.len(),
+    }
 }
 
 // Writes what a line that ends in LF stands for from `start` on, and returns where it ends.
@@ -67,8 +85,7 @@ fn read_line(line: &[u8], ending: &[u8], bytes: &mut [u8], start: usize) -> usiz
         Some(front) => unescape(front, bytes, start),
         None => {
             let size = unescape(text, bytes, start);
-            bytes[size..size + ending.len()].copy_from_slice(ending);
-            size + ending.len()
+            write(ending, bytes, size)
         }
     }
 }
@@ -113,25 +130,39 @@ fn unescape(text: &[u8], bytes: &mut [u8], start: usize) -> usize
     let mut rest = text;
     let mut size = start;
     while let [first, after @ ..] = rest {
-        let (byte, more) = next_byte(*first, after);
-        bytes[size] = byte;
-        size += 1;
-        rest = more;
+        if *first == b'=' {
+            let (byte, more) = byte_after_equals(after);
+            bytes[size] = byte;
+            size += 1;
+            rest = more;
+            continue;
+        }
+        let run = find(b'=', rest);
+        size = write(&rest[..run], bytes, size);
+        rest = &rest[run..];
     }
     size
 }
 
-// The byte that a text begins with, by its first character and the rest, and what comes after it.
-fn next_byte(first: u8, after: &[u8]) -> (u8, &[u8])
-    ensures byte { unescaped (first ∷ after.now) ≡ result.0 ∷ unescaped result.1.now }
-    ensures bound { length result.1.now ≤ length after.now }
+// Writes a piece as it stands from `start` on, and returns where it ends.
+fn write(piece: &[u8], bytes: &mut [u8], start: usize) -> usize
+    requires { start + length piece.now ≤ length bytes.old }
+    ensures written { take result bytes.new ≡ take start bytes.old ++ piece.now }
+    ensures end { result ≡ start + length piece.now }
 {
-    if first != b'=' {
-        return (first, after);
-    }
-    match escape(after) {
-        Some(byte) => (byte, &after[2..]),
-        None => (first, after),
+    let end = start + piece.len();
+    bytes[start..end].copy_from_slice(piece);
+    end
+}
+
+// The byte that an `=` and the text after it begin with, and what comes after it.
+fn byte_after_equals(text: &[u8]) -> (u8, &[u8])
+    ensures byte { unescaped (61 ∷ text.now) ≡ result.0 ∷ unescaped result.1.now }
+    ensures bound { length result.1.now ≤ length text.now }
+{
+    match escape(text) {
+        Some(byte) => (byte, &text[2..]),
+        None => (b'=', text),
     }
 }
 
