@@ -35,7 +35,8 @@ def inputs():
     random.seed(1)
     raw = random.randbytes(SIZE)
     encoded = base64.encodebytes(raw).replace(b"\n", b"\r\n")[: SIZE // 78 * 78]
-    words = ["lorem", "ipsum", "dolor", "sit", "amet", "caf\u00e9", "na\u00efve", "x=1", "and", "the", "of\r\n"]
+    words = "lorem ipsum dolor sit amet and the sed do eiusmod tempor ut labore magna aliqua enim minim veniam".split()
+    words += ["caf\u00e9", "x=1", "of\r\n"]
     prose = " ".join(random.choice(words) for _ in range(SIZE // 4)).encode()[:SIZE]
     quoted = binascii.b2a_qp(prose.replace(b"\r\n", b"\n")).replace(b"\n", b"\r\n")[:SIZE]
     return {
@@ -57,6 +58,8 @@ def inputs():
             "all LF": b"\n" * SIZE,
             "all spaces": b" " * SIZE,
             "= and a space": cut(b"= "),
+            "= and a letter": cut(b"a="),
+            "a short line": cut(b"abc=\r\n"),
         },
         "encode-base64": {
             "clean": raw,
@@ -107,9 +110,16 @@ def others(work, data, path, times):
     if work == "decode-base64":
         with open(path, "wb") as file:
             file.write(data.replace(b"\r", b""))
-        return [("base64 -d, process, lines ended by LF", process_seconds(["base64", "-d"], path, times))]
+        return [
+            ("base64 -d, process, lines ended by LF", process_seconds(["base64", "-d"], path, times)),
+            ("binascii.a2b_base64, call", python_seconds(binascii.a2b_base64, data, times)),
+        ]
     if work == "encode-base64":
-        return [("base64, process", process_seconds(["base64"], path, times))]
+        call = python_seconds(binascii.b2a_base64, data, times)
+        return [
+            ("base64, process", process_seconds(["base64"], path, times)),
+            ("binascii.b2a_base64, call, one line", call),
+        ]
     call = binascii.a2b_qp if work == "decode-quoted" else binascii.b2a_qp
     return [(f"binascii.{call.__name__}, call", python_seconds(call, data, times))]
 

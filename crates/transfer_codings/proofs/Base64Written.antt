@@ -143,18 +143,15 @@ bytes_of-groups (a ∷ b ∷ c ∷ rest) text bytes whole =
     ∙ ap (λ xs. a ∷ b ∷ c ∷ xs) (bytes_of-groups rest text (λ i. bytes (suc (suc (suc i)))) (omega (arith, whole)))
 
 -- groups, and the padding of the last
-bytes_of-padded : (m text : List ℕ) → IsBytes m
-    → bytes_of (live (encode_symbols alphabet m ++ (replicate (padding_len (length m)) 61 ++ 13 ∷ 10 ∷ []))) ≡ m
+bytes_of-padded : (m : List ℕ) (padding : ℕ) → IsBytes m → padding ≡ padding_len (length m)
+    → bytes_of (live (encode_symbols alphabet m ++ (replicate padding 61 ++ 13 ∷ 10 ∷ []))) ≡ m
 unfolding encode_symbols bytes_of
-bytes_of-padded [] text bytes = ap bytes_of (live-break [])
-bytes_of-padded (a ∷ []) text bytes = bytes_of-one_left a (61 ∷ 13 ∷ 10 ∷ []) (bytes 0)
-bytes_of-padded (a ∷ b ∷ []) text bytes = bytes_of-two_left a b (13 ∷ 10 ∷ []) (bytes 0) (bytes 1)
-bytes_of-padded (a ∷ b ∷ c ∷ rest) text bytes =
-    let same : padding_len (length (a ∷ b ∷ c ∷ rest)) ≡ padding_len (length rest) = omega arith in
-    let tail = replicate (padding_len (length rest)) 61 ++ 13 ∷ 10 ∷ [] in
-    ap (λ n. bytes_of (live (encode_symbols alphabet (a ∷ b ∷ c ∷ rest) ++ (replicate n 61 ++ 13 ∷ 10 ∷ [])))) same
-    ∙ bytes_of-group a b c (encode_symbols alphabet rest ++ tail) (bytes 0) (bytes 1) (bytes 2)
-    ∙ ap (λ xs. a ∷ b ∷ c ∷ xs) (bytes_of-padded rest text (λ i. bytes (suc (suc (suc i)))))
+bytes_of-padded [] padding bytes e = rw e (ap bytes_of (live-break []))
+bytes_of-padded (a ∷ []) padding bytes e = rw e (bytes_of-one_left a (61 ∷ 13 ∷ 10 ∷ []) (bytes 0))
+bytes_of-padded (a ∷ b ∷ []) padding bytes e = rw e (bytes_of-two_left a b (13 ∷ 10 ∷ []) (bytes 0) (bytes 1))
+bytes_of-padded (a ∷ b ∷ c ∷ rest) padding bytes e =
+    bytes_of-group a b c (encode_symbols alphabet rest ++ (replicate padding 61 ++ 13 ∷ 10 ∷ [])) (bytes 0) (bytes 1) (bytes 2)
+    ∙ ap (λ xs. a ∷ b ∷ c ∷ xs) (bytes_of-padded rest padding (λ i. bytes (suc (suc (suc i)))) (omega (arith, e)))
 
 -- ---- lines
 
@@ -163,7 +160,7 @@ unfolding base64_line bytes_of
 bytes_of-last m rest bytes last =
     let symbols : List ℕ = encode_symbols alphabet m in
     let padding : List ℕ = replicate (padding_len (length m)) 61 in
-    rw (last, append-nil (symbols ++ padding ++ 13 ∷ 10 ∷ []), append_assoc symbols padding (13 ∷ 10 ∷ []), append-nil m) (bytes_of-padded m [] bytes)
+    rw (last, append-nil (symbols ++ padding ++ 13 ∷ 10 ∷ []), append_assoc symbols padding (13 ∷ 10 ∷ []), append-nil m) (bytes_of-padded m (padding_len (length m)) bytes refl)
 
 bytes_of-line : (m rest : List ℕ) → IsBytes m → (length m % 3 ≡ 0) ⊎ (rest ≡ [])
     → bytes_of (live (base64_line m ++ rest)) ≡ m ++ bytes_of (live rest)

@@ -1,10 +1,12 @@
 -- Worked examples of the definitions.
 use Rattle.std.proofs.Common.{◌≡◌, [], ◌∷◌, ◌++◌, Some, None, refl}
-use Rattle.std.specs.Prelude.{codes}
+use Rattle.std.specs.Prelude.{codes, replicate}
 use Rattle.transfer_codings.specs.declared.charset.Charset.TheVariants.{Utf8, Ascii, Latin1}
-use Rattle.transfer_codings.specs.Base64.{base64_bytes, bytes_of, sextet_of}
+use Rattle.transfer_codings.specs.Base64.{base64_bytes, base64_line, base64_lines, base64_text, bytes_of, sextet_of}
 use Rattle.transfer_codings.specs.Charsets.{charset_named, text_in}
+use Rattle.base64.specs.Rfc4648.{encode_symbols}
 use Rattle.transfer_codings.specs.Quoted.{line_bytes, quoted_bytes, unescaped, without_blanks}
+use Rattle.transfer_codings.specs.QuotedRows.{broken_lines, quoted_text, rows_text, unit_of}
 
 -- ---- base64: the test vectors of RFC 4648, section 10
 
@@ -106,3 +108,41 @@ latin1_text = refl
 ascii_text : text_in Ascii (codes "a" ++ 0x80 ∷ codes "b") ≡ codes "a" ++ 0xEF ∷ 0xBF ∷ 0xBD ∷ codes "b"
 unfolding lib.Utf8.encode
 ascii_text = refl
+
+-- ---- what is written
+
+encoded : base64_text (codes "foobar") ≡ codes "Zm9vYmFy" ++ 13 ∷ 10 ∷ []
+unfolding encode_symbols base64_line base64_lines
+encoded = refl
+
+encoded_padded : base64_text (codes "foob") ≡ codes "Zm9vYg==" ++ 13 ∷ 10 ∷ []
+unfolding encode_symbols base64_line base64_lines
+encoded_padded = refl
+
+nothing_encoded : base64_text [] ≡ []
+unfolding encode_symbols base64_line base64_lines
+nothing_encoded = refl
+
+-- 58 bytes of zero are a line of 76 characters and one of four
+second_line : base64_text (replicate 58 0) ≡ replicate 76 65 ++ 13 ∷ 10 ∷ codes "AA==" ++ 13 ∷ 10 ∷ []
+unfolding encode_symbols base64_line base64_lines
+second_line = refl
+
+-- `=`, a TAB, a lone CR and other bytes as escapes, a space within a line and one at its end
+escapes : quoted_text (codes "a =b " ++ 13 ∷ 10 ∷ 9 ∷ 0xE9 ∷ 13 ∷ codes "c ") ≡ codes "a =3Db=20" ++ 13 ∷ 10 ∷ codes "=09=E9=0Dc=20"
+unfolding quoted_text rows_text broken_lines unit_of
+escapes = refl
+
+-- 76 characters are one row, and of 77 the first has 75 and the soft break
+one_row : quoted_text (replicate 76 97) ≡ replicate 76 97
+unfolding quoted_text rows_text broken_lines unit_of
+one_row = refl
+
+two_rows : quoted_text (replicate 77 97) ≡ replicate 75 97 ++ 61 ∷ 13 ∷ 10 ∷ replicate 2 97
+unfolding quoted_text rows_text broken_lines unit_of
+two_rows = refl
+
+-- an escape is not cut
+escape_at_end : quoted_text (replicate 74 97 ++ codes "=b") ≡ replicate 74 97 ++ 61 ∷ 13 ∷ 10 ∷ codes "=3Db"
+unfolding quoted_text rows_text broken_lines unit_of
+escape_at_end = refl
