@@ -1,0 +1,9 @@
+pub mod Base64Lemmas
+pub mod QuotedLemmas
+pub mod Places
+pub mod Examples
+pub mod Lines
+pub mod RowLemmas
+pub mod QuotedEnds
+pub mod QuotedWritten
+pub mod Base64Written
