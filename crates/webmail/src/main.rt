@@ -35,3 +35,6 @@ fn run(rt: &HostRuntime) -> Status {
     let mut sink = WriterSink::new(rt.stdout());
     run_show(rt.alloc(), &words, &mut source, &mut sink)
 }
+
+#[cfg(test)]
+mod tests;
