@@ -13,29 +13,37 @@ SMALL = LARGE // 10
 HEAD = b"Subject: bench\r\n\r\n"
 
 
-def filled(head, line, size, tail=b""):
+TEXT = b"The quick brown fox jumps over the lazy dog, and over the dog again it jumps\r\n"
+
+# for each shape: what stands before, the line that is repeated, and what stands after
+SHAPES = {
+    "plain text": (HEAD, TEXT, b""),
+    "less-than signs": (HEAD, b"<", b""),
+    "header lines": (b"", b"X-Field: of a header\r\n", b"\r\n"),
+    "short header lines": (b"", b"a:b\n", b"\n"),
+    "lines that are no field": (b"", b"no field\r\n", b"\r\n"),
+    "one folded field": (b"Subject: x\r\n", b" and on\r\n", b"\r\n"),
+    "carriage returns": (HEAD, b"\r", b""),
+    "bytes that are no UTF-8": (HEAD, b"\xff", b""),
+}
+
+
+def write(path, shape, size):
+    """Writes a message of a shape, a piece at a time: a child's peak memory counts what this process holds when it starts."""
+    head, line, tail = SHAPES[shape]
     room = size - len(head) - len(tail)
-    return head + (line * (room // len(line) + 1))[:room] + tail
-
-
-def shapes(size):
-    text = b"The quick brown fox jumps over the lazy dog, and over the dog again it jumps\r\n"
-    return {
-        "plain text": filled(HEAD, text, size),
-        "less-than signs": filled(HEAD, b"<", size),
-        "header lines": filled(b"", b"X-Field: of a header\r\n", size - 2) + b"\r\n",
-        "short header lines": filled(b"", b"a:b\n", size - 1) + b"\n",
-        "lines that are no field": filled(b"", b"no field\r\n", size - 2) + b"\r\n",
-        "one folded field": filled(b"Subject: x\r\n", b" and on\r\n", size - 2) + b"\r\n",
-        "carriage returns": filled(HEAD, b"\r", size),
-        "bytes that are no UTF-8": filled(HEAD, b"\xff", size),
-    }
+    piece = line * (65_536 // len(line) + 1)
+    with open(path, "wb") as file:
+        file.write(head)
+        while room > 0:
+            room -= file.write(piece[:room])
+        file.write(tail)
 
 
 def measure(command, source):
-    """Processor seconds and peak kilobytes of the best of three runs."""
+    """Processor seconds and peak kilobytes of the best of some runs."""
     best = None
-    for _ in range(3):
+    for _ in range(7):
         with open(source, "rb") as given:
             child = subprocess.Popen(command, stdin=given, stdout=subprocess.DEVNULL)
             _, status, usage = os.wait4(child.pid, 0)
@@ -62,26 +70,25 @@ def main():
         seconds = {}
         base = measure([sys.executable, "-c", "pass"], os.devnull)[0]
         for size in (SMALL, LARGE):
-            for name, message in shapes(size).items():
+            for name in SHAPES:
                 path = os.path.join(folder, "message")
-                with open(path, "wb") as file:
-                    file.write(message)
+                write(path, name, size)
                 own, peak = measure([PROGRAM, "show"], path)
-                python = measure([sys.executable, "-c", PYTHON], path)[0] - base
                 seconds[name, size] = own
-                print(f"{size:>10} {name:26} {own:7.3f} s  python {python:7.3f} s  {own / python:5.2f}  {peak * 1024 / len(message):6.2f} bytes a byte")
                 if size == LARGE:
+                    python = measure([sys.executable, "-c", PYTHON], path)[0] - base
                     seconds[name, "python"] = python
-                    seconds[name, "peak"] = peak * 1024 / len(message)
+                    seconds[name, "peak"] = peak * 1024 / size
+                    print(f"{name:26} {own:7.3f} s  python {python:7.3f} s  {own / python:5.2f}  {peak * 1024 / size:6.2f} bytes a byte")
         bounds = [
             ("plain text beside Python", seconds["plain text", LARGE] / seconds["plain text", "python"], 2),
             ("less-than signs beside Python", seconds["less-than signs", LARGE] / seconds["less-than signs", "python"], 1),
         ]
         for name in ("header lines", "short header lines", "lines that are no field", "one folded field"):
             bounds.append((f"{name} beside plain text", seconds[name, LARGE] / seconds["plain text", LARGE], 3))
-        for name in shapes(SMALL):
+        for name in SHAPES:
             bounds.append((f"{name}: growth of time", seconds[name, LARGE] / max(seconds[name, SMALL], 0.001), 12))
-            bounds.append((f"{name}: memory", seconds[name, "peak"], 10 if name == "less-than signs" else 5))
+            bounds.append((f"{name}: memory", seconds[name, "peak"], 10 if name in ("less-than signs", "bytes that are no UTF-8") else 5))
         for name, got, most in bounds:
             mark = "" if got <= most else "   PAST THE BOUND"
             print(f"{name:45} {got:6.2f} of {most}{mark}")
