@@ -37,8 +37,8 @@ pub(crate) fn decode(alloc: Global, text: &[u8]) -> Result<Vec<u8>, Memory>
     Ok(bytes)
 }
 
-/// The base64 text of `bytes` in lines of 76 characters, of which only the last may be shorter. Each
-/// line ends in CR LF, and there is none where there are no bytes (RFC 2045 §6.8).
+/// The base64 text of `bytes` (RFC 2045 §6.8) in lines of 76 characters, of which only the last may be
+/// shorter. CR LF ends each line, also the last. No bytes give no line.
 pub fn encode_base64(alloc: Global, bytes: &[u8]) -> Result<Vec<u8>, Memory>
     ensures text { IfOk result (λ text. text.items ≡ base64_text bytes.now) }
     ensures decodes { IfOk result (λ text. base64_bytes text.items ≡ bytes.now) }
