@@ -2,6 +2,7 @@
 
 ghost use Rattle.std.specs.Prelude.{◌≡◌, ◌∷◌, ◌++◌, [], ◌+◌, ◌*◌, ◌≤◌, ◌<◌, MatchOption, IfOk, OnOk, length, take};
 ghost use Rattle.std.specs.List.{All, before_first};
+ghost use Rattle.std.specs.Str.{IsAscii};
 ghost use Rattle.std.specs.Str.Lines.{lines};
 ghost use Rattle.transfer_codings.specs.Base64.{HasFour, base64_bytes, base64_line, base64_text, bytes_of, is_equals, sextet_of, sextets};
 
@@ -43,6 +44,7 @@ pub fn encode_base64(alloc: Global, bytes: &[u8]) -> Result<Vec<u8>, Memory>
     ensures text { IfOk result (λ text. text.items ≡ base64_text bytes.now) }
     ensures decodes { IfOk result (λ text. base64_bytes text.items ≡ bytes.now) }
     ensures lines { IfOk result (λ text. All (λ line. length line ≤ 76) (lines text.items)) }
+    ensures ascii { IfOk result (λ text. IsAscii text.items) }
 {
     let count = bytes.len().div_ceil(57);
     let mut text = Vec::with_capacity(alloc, 78 * count)?;
