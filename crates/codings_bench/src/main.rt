@@ -2,14 +2,14 @@
 #![tactic(auto)]
 
 use std::alloc::Global;
-use std::env;
-use std::io;
 use std::io::{Read, Write};
 use std::process::ExitCode;
 use std::time::Instant;
+use std::{env, io};
 use transfer_codings::{Coding, Memory, decode, encode_base64, encode_quoted};
 
-const USAGE: &str = "usage: codings_bench decode-base64|decode-quoted|encode-base64|encode-quoted [TIMES]";
+const USAGE: &str =
+    "usage: codings_bench decode-base64|decode-quoted|encode-base64|encode-quoted [TIMES]";
 
 #[derive(Clone, Copy)]
 enum Work {
@@ -53,7 +53,9 @@ fn run(rt: &HostRuntime, work: Work, times: u32) -> io::Result<()> {
 fn main(rt: HostRuntime) -> io::Result<ExitCode> {
     let words = env::args(&rt)?.skip(1).collect::<Vec<String>>(rt.alloc())?;
     let work = words.first().and_then(|word| work_named(word.as_str()));
-    let times = words.get(1).map_or(Some(1), |word| word.as_str().parse::<u32>().ok());
+    let times = words
+        .get(1)
+        .map_or(Some(1), |word| word.as_str().parse::<u32>().ok());
     match (work, times) {
         (Some(work), Some(times)) => {
             run(&rt, work, times)?;

@@ -1,6 +1,7 @@
 pub mod Base64Lemmas
 pub mod QuotedLemmas
 pub mod Places
+pub mod Ascii
 pub mod Examples
 pub mod Lines
 pub mod RowLemmas

@@ -159,7 +159,7 @@ line-decode (byte ∷ more) tail read ends bytes column row done wrote well =
 
 -- ---- what a text decodes to
 
-abbrev plainly : List ℕ → List ℕ
+abbrev pub plainly : List ℕ → List ℕ
 plainly line = line
 
 join-step : (cut : Bool) (first second : ℕ) (more : List ℕ) (here after : List (List ℕ)) → (cut ≡ true → (first ≡ 13) × (second ≡ 10))
@@ -172,7 +172,7 @@ join-step true first second more (line ∷ others) after are some whole rest =
 join-step false first second more here [] are some whole rest = ap (λ xs. first ∷ xs) rest
 join-step false first second more here (line ∷ others) are some whole rest = ap (λ xs. first ∷ xs) rest
 
-join-broken_lines : (text : List ℕ) → join_by plainly break (broken_lines text) ≡ text
+pub join-broken_lines : (text : List ℕ) → join_by plainly break (broken_lines text) ≡ text
 unfolding broken_lines
 join-broken_lines [] = refl
 join-broken_lines (only ∷ []) = refl
@@ -181,7 +181,7 @@ join-broken_lines (first ∷ second ∷ more) =
     (λ e. let both = and_parts (first == 13) (second == 10) e in (eqb-true first 13 both.0, eqb-true second 10 both.1))
     (broken_lines-some more) (join-broken_lines more) (join-broken_lines (second ∷ more))
 
-back_bytes : (front back : List ℕ) → IsBytes (front ++ back) → IsBytes back
+pub back_bytes : (front back : List ℕ) → IsBytes (front ++ back) → IsBytes back
 back_bytes [] back are = are
 back_bytes (x ∷ front) back are = back_bytes front back (λ i. are (suc i))
 

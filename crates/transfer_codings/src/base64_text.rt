@@ -2,6 +2,7 @@
 
 ghost use Rattle.std.specs.Prelude.{◌≡◌, ◌∷◌, ◌++◌, [], ◌+◌, ◌*◌, ◌≤◌, ◌<◌, MatchOption, IfOk, OnOk, length, take};
 ghost use Rattle.std.specs.List.{All, before_first};
+ghost use Rattle.std.specs.Str.{IsAscii};
 ghost use Rattle.std.specs.Str.Lines.{lines};
 ghost use Rattle.transfer_codings.specs.Base64.{HasFour, base64_bytes, base64_line, base64_text, bytes_of, is_equals, sextet_of, sextets};
 
@@ -37,12 +38,13 @@ pub(crate) fn decode(alloc: Global, text: &[u8]) -> Result<Vec<u8>, Memory>
     Ok(bytes)
 }
 
-/// The base64 text of `bytes` in lines of 76 characters, of which only the last may be shorter. Each
-/// line ends in CR LF, and there is none where there are no bytes (RFC 2045 §6.8).
+/// The base64 text of `bytes` (RFC 2045 §6.8) in lines of 76 characters, of which only the last may be
+/// shorter. CR LF ends each line, also the last. No bytes give no line.
 pub fn encode_base64(alloc: Global, bytes: &[u8]) -> Result<Vec<u8>, Memory>
     ensures text { IfOk result (λ text. text.items ≡ base64_text bytes.now) }
     ensures decodes { IfOk result (λ text. base64_bytes text.items ≡ bytes.now) }
     ensures lines { IfOk result (λ text. All (λ line. length line ≤ 76) (lines text.items)) }
+    ensures ascii { IfOk result (λ text. IsAscii text.items) }
 {
     let count = bytes.len().div_ceil(57);
     let mut text = Vec::with_capacity(alloc, 78 * count)?;

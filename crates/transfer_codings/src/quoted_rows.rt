@@ -2,6 +2,7 @@
 
 ghost use Rattle.std.specs.Prelude.{◌≡◌, ◌∷◌, ◌++◌, [], ◌+◌, ◌≤◌, ◌<◌, MatchOption, IfOk, OnOk, length};
 ghost use Rattle.std.specs.List.{All};
+ghost use Rattle.std.specs.Str.{IsAscii};
 ghost use Rattle.std.specs.Str.Lines.{lines};
 ghost use Rattle.transfer_codings.specs.Quoted.{quoted_bytes};
 ghost use Rattle.transfer_codings.specs.QuotedRows.{broken_lines, column_after, escape_of, placed_unit, quoted_text, rest_of_line, soft_break, stands, unit_column, upper_digit};
@@ -18,6 +19,7 @@ pub fn encode_quoted(alloc: Global, bytes: &[u8]) -> Result<Vec<u8>, Memory>
     ensures text { IfOk result (λ text. text.items ≡ quoted_text bytes.now) }
     ensures decodes { IfOk result (λ text. quoted_bytes text.items ≡ bytes.now) }
     ensures lines { IfOk result (λ text. All (λ line. length line ≤ 76) (lines text.items)) }
+    ensures ascii { IfOk result (λ text. IsAscii text.items) }
 {
     let mut text = Vec::with_capacity(alloc, bytes.len())?;
     let mut rest = bytes;

@@ -1,6 +1,6 @@
-//! Quoted-printable (RFC 2045 §6.7).
+//! Quoted-printable as mail reads it (RFC 2045 §6.7).
 
-ghost use Rattle.std.specs.Prelude.{◌≡◌, ◌==◌, ◌∷◌, ◌++◌, [], ◌+◌, ◌≤◌, ◌<◌, MatchOption, IfOk, true, false, length, take};
+ghost use Rattle.std.specs.Prelude.{◌≡◌, ◌==◌, ◌∷◌, ◌++◌, [], ◌+◌, ◌≤◌, ◌<◌, MatchOption, IfOk, IfSome, true, false, length, take};
 ghost use Rattle.std.specs.List.{position_or_len, slice_split};
 ghost use Rattle.transfer_codings.specs.Quoted.{broken_line, ends_in, escaped_byte, hex_value, is_blank, is_line_feed, line_bytes, quoted_bytes, unescaped, without_blanks, without_last};
 
@@ -169,7 +169,7 @@ fn byte_after_equals(text: &[u8]) -> (u8, &[u8])
 // The byte that the first two characters write, where they are hexadecimal digits.
 fn escape(text: &[u8]) -> Option<u8>
     ensures value { result ≡ escaped_byte text.now }
-    ensures room { MatchOption result (0 ≤ 0) (λ byte. 2 ≤ length text.now) }
+    ensures room { IfSome result (λ byte. 2 ≤ length text.now) }
 {
     let [high, low, ..] = text else {
         return None;
@@ -181,7 +181,7 @@ fn escape(text: &[u8]) -> Option<u8>
 
 fn hex(digit: u8) -> Option<u8>
     ensures value { result ≡ hex_value digit }
-    ensures small { MatchOption result (0 ≤ 0) (λ value. value < 16) }
+    ensures small { IfSome result (λ value. value < 16) }
 {
     match digit {
         b'0'..=b'9' => Some(digit - b'0'),

@@ -1,5 +1,7 @@
-use Rattle.std.proofs.Common.{◌≡◌, ◌+◌, ◌/◌, length, arith, ap, sym, ◌∙◌, ◌++◌}
+use Rattle.std.proofs.Common.{◌≡◌, ◌+◌, ◌/◌, length, arith, ap, sym, ◌∙◌, ◌++◌, subst}
 use Rattle.transfer_codings.specs.Base64.{base64_line, base64_bytes, line_piece}
+use Rattle.std.specs.Str.{IsAscii}
+use Rattle.transfer_codings.proofs.Ascii.{base64_lines-ascii}
 use Rattle.transfer_codings.proofs.Base64Written.{base64_lines-none, base64_lines-more, base64_lines-decode, base64_lines-short, line_piece-is}
 use Rattle.transfer_codings.proofs.base64_text.encode_base64.Goals as goal
 
@@ -25,3 +27,7 @@ returns-clause-decodes c =
 
 pub returns-clause-lines : goal.returns-clause-lines
 returns-clause-lines c = let short = base64_lines-short c.args.bytes.now 0 c.loop-number.number (λ i. omega (arith, c.type_inv.bytes i)) in rw c.loop-number.invariant short
+
+pub returns-clause-ascii : goal.returns-clause-ascii
+returns-clause-ascii c =
+    subst IsAscii (sym c.loop-number.invariant) (base64_lines-ascii c.args.bytes.now 0 c.loop-number.number)

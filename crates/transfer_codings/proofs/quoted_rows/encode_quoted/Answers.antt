@@ -1,7 +1,9 @@
-use Rattle.std.proofs.Common.{List, ℕ, length, ◌≤◌, arith, ap, ◌∙◌}
+use Rattle.std.proofs.Common.{List, ℕ, length, ◌≤◌, arith, ap, ◌∙◌, sym, subst}
 use Rattle.std.specs.Str.Lines.{lines}
 use Rattle.transfer_codings.specs.Quoted.{quoted_bytes}
 use Rattle.std.proofs.lemmas.List.Elements.{All-same}
+use Rattle.std.specs.Str.{IsAscii}
+use Rattle.transfer_codings.proofs.Ascii.{quoted_text-ascii}
 use Rattle.transfer_codings.proofs.QuotedWritten.{quoted_text-decode, quoted_text-short}
 use Rattle.transfer_codings.proofs.RowLemmas.{written_line, written_last}
 use Rattle.transfer_codings.proofs.quoted_rows.encode_quoted.Goals as goal
@@ -24,3 +26,7 @@ pub returns-clause-lines : goal.returns-clause-lines
 returns-clause-lines c =
     All-same (λ (line : List ℕ). length line ≤ 76) _ _ (ap lines (returns-clause-text c))
     (quoted_text-short c.args.bytes.now (λ i. omega (arith, c.type_inv.bytes i)))
+
+pub returns-clause-ascii : goal.returns-clause-ascii
+returns-clause-ascii c =
+    subst IsAscii (sym (returns-clause-text c)) (quoted_text-ascii c.args.bytes.now (λ i. omega (arith, c.type_inv.bytes i)))
