@@ -1,5 +1,9 @@
+pub mod Blanks
+pub mod Cuts
 pub mod Examples
 pub mod FirstLine
+pub mod RunLemmas
 pub mod WholeLines
 pub mod Scan
 pub mod Unfolding
+pub mod WordExamples

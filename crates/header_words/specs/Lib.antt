@@ -1,4 +1,5 @@
 pub mod Lines
 pub mod Fields
 pub mod Places
+pub mod EncodedWords
 pub mod Value

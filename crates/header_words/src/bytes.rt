@@ -16,7 +16,8 @@ pub fn first_line(rest: &[u8]) -> (&[u8], usize)
     }
 }
 
-fn place_of(byte: u8, bytes: &[u8]) -> Option<usize>
+/// Where a byte first stands.
+pub fn place_of(byte: u8, bytes: &[u8]) -> Option<usize>
     ensures { result ≡ position (λ b. b == byte) bytes.now }
 {
     bytes.iter().position(|b| *b == byte)

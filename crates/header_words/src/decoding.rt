@@ -1,20 +1,24 @@
 //! The value of a field as a text.
-ghost use Rattle.std.specs.Prelude.{◌≡◌, IfOk, OnOk, ◌++◌, string_bytes};
-ghost use Rattle.header_words.specs.Fields.{is_blank, is_continuation};
+ghost use Rattle.std.specs.Prelude.{◌≡◌, ◌++◌, IfOk, OnOk, IfSome, IfNone, string_bytes};
+ghost use Rattle.header_words.specs.Fields.{is_blank};
 ghost use Rattle.header_words.specs.Places.{raw_field};
-ghost use Rattle.header_words.specs.Value.{unfolded, unfolded_with, without_front, without_back, trimmed, decoded_of};
+ghost use Rattle.header_words.specs.EncodedWords.{said_of};
+ghost use Rattle.header_words.specs.Value.{unfolded, unfolded_with, without_front, without_back, trimmed, decoded_of, IsAfterBlank, IsBeforeBlank};
 
 use crate::bytes::{after_colon, first_line, goes_on};
 use crate::header::Field;
+use crate::runs::say_runs;
 use std::alloc::{AllocError, Global};
 
-/// The value with folds made single spaces and no white space at its ends, read as UTF-8 lossily.
+/// The value with folds made single spaces and encoded words decoded (RFC 2047), all else read as UTF-8 lossily, without
+/// white space at its ends. A word of a charset that isn't read stays as it is written.
 #[tactic(auto, unfolding(crate::specs::Value::decoded_of))]
 pub fn decoded(alloc: Global, field: &Field<'_>) -> Result<String, AllocError>
     ensures { IfOk result (λ text. string_bytes text ≡ decoded_of field.now.lines) }
 {
     let value = unfold(alloc, field.raw())?;
-    String::from_utf8_lossy(alloc, trim(&value))
+    let text = say_runs(alloc, &value)?;
+    String::from_str(alloc, trim(&text))
 }
 
 /// The lines of a field's value as one.
@@ -37,24 +41,13 @@ fn unfold_line(value: &mut Vec<u8>, line: &[u8]) -> Result<(), AllocError>
 {
     if goes_on(line) {
         value.push(b' ')?;
-        value.extend_from_slice(trim_front(line))?;
+        value.extend_from_slice(without_blanks(line))?;
     }
     Ok(())
 }
 
-fn is_space(byte: u8) -> bool
-    ensures { result ≡ is_blank byte }
-{
-    byte == b' ' || byte == b'\t'
-}
-
-fn trim(bytes: &[u8]) -> &[u8]
-    ensures { result.now ≡ trimmed bytes.now }
-{
-    trim_back(trim_front(bytes))
-}
-
-fn trim_front(bytes: &[u8]) -> &[u8]
+/// The bytes without the blanks at their front.
+fn without_blanks(bytes: &[u8]) -> &[u8]
     ensures { result.now ≡ without_front bytes.now }
 {
     let mut rest = bytes;
@@ -67,15 +60,63 @@ fn trim_front(bytes: &[u8]) -> &[u8]
     rest
 }
 
-fn trim_back(bytes: &[u8]) -> &[u8]
-    ensures { result.now ≡ without_back bytes.now }
+fn is_space(byte: u8) -> bool
+    ensures { result ≡ is_blank byte }
 {
-    let mut rest = bytes;
-    while let [more @ .., last] = rest {
-        if !is_space(*last) {
-            break;
-        }
+    byte == b' ' || byte == b'\t'
+}
+
+/// The text without white space at its ends.
+fn trim(text: &str) -> &str
+    ensures { result.now ≡ trimmed text.now }
+{
+    trim_back(trim_front(text))
+}
+
+fn trim_front(text: &str) -> &str
+    ensures { result.now ≡ without_front text.now }
+{
+    let mut rest = text;
+    while let Some(more) = after_blank(rest) {
         rest = more;
     }
     rest
+}
+
+fn trim_back(text: &str) -> &str
+    ensures { result.now ≡ without_back text.now }
+{
+    let mut rest = text;
+    while let Some(more) = before_blank(rest) {
+        rest = more;
+    }
+    rest
+}
+
+/// The text after a blank that stands first.
+fn after_blank(text: &str) -> Option<&str>
+    ensures found { IfSome result (λ rest. IsAfterBlank text.now rest.now) }
+    ensures none { IfNone result (without_front text.now ≡ text.now) }
+{
+    match text.strip_prefix(' ') {
+        Some(rest) => Some(rest),
+        None => match text.strip_prefix('\t') {
+            Some(rest) => Some(rest),
+            None => None,
+        },
+    }
+}
+
+/// The text before a blank that stands last.
+fn before_blank(text: &str) -> Option<&str>
+    ensures found { IfSome result (λ rest. IsBeforeBlank text.now rest.now) }
+    ensures none { IfNone result (without_back text.now ≡ text.now) }
+{
+    match text.strip_suffix(' ') {
+        Some(rest) => Some(rest),
+        None => match text.strip_suffix('\t') {
+            Some(rest) => Some(rest),
+            None => None,
+        },
+    }
 }

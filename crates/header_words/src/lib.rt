@@ -5,6 +5,8 @@ mod bytes;
 pub mod decoding;
 pub mod header;
 pub mod reading;
+mod runs;
+mod words;
 
 pub use decoding::decoded;
 pub use header::{Field, Fields};

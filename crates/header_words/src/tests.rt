@@ -63,3 +63,32 @@ fn finds_the_first_of_a_name(rt: HostRuntime) -> Result<(), Fail> {
     assert!(rt; !read.is_empty());
     Ok(())
 }
+
+/// Values with encoded words: adjacent, within text and parentheses, folded, and what looks like one.
+#[test]
+fn decodes_words(rt: HostRuntime) -> Result<(), Fail> {
+    let alloc = rt.alloc();
+    for (message, want) in [
+        (
+            b"S: =?utf-8?Q?Caf=C3=A9_week?= at the =?iso-8859-1?b?6Q==?=!".as_slice(),
+            "S=Caf\u{E9} week at the =?iso-8859-1?b?6Q==?=!|59",
+        ),
+        (
+            b"S: =?utf-8?q?one?=\r\n =?utf-8?q?_two?= \t=?us-ascii*en?Q?=2E?=",
+            "S=one two.|60",
+        ),
+        (b"S: (=?iso-8859-1?q?a=E9?= b)", "S=(a\u{E9} b)|28"),
+        (
+            b"S: =?utf-8?q?_a_?= =?x-none?q?b?= =?utf-8?q??=",
+            "S=a  =?x-none?q?b?= =?utf-8?q??=|46",
+        ),
+        (
+            b"S: =?utf-8?q?\xff?= \"=?utf-8?q?c?=\"",
+            "S==?utf-8?q?\u{FFFD}?= \"=?utf-8?q?c?=\"|32",
+        ),
+    ] {
+        let text = shown(alloc, message)?;
+        assert_eq!(rt; text.as_str(), want);
+    }
+    Ok(())
+}

@@ -102,6 +102,13 @@ fn shows_plain_messages(rt: HostRuntime) -> Result<(), Fail> {
             16,
         ),
         (
+            b"Subject: =?utf-8?Q?Caf=C3=A9_?=\r\n =?utf-8?Q?week?=\r\nFrom: =?iso-8859-1?B?SnVs6Q==?= <j@x>\r\n\r\n".as_slice(),
+            "Caf\u{E9} week",
+            "<tr><th>From</th><td>Jul\u{E9} &lt;j@x&gt;</td></tr>",
+            "",
+            0,
+        ),
+        (
             b"Content: text/plain\n\nx".as_slice(),
             "(no subject)",
             "",
