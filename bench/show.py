@@ -23,6 +23,10 @@ SHAPES = {
     "short header lines": (b"", b"a:b\n", b"\n"),
     "lines that are no field": (b"", b"no field\r\n", b"\r\n"),
     "one folded field": (b"Subject: x\r\n", b" and on\r\n", b"\r\n"),
+    "openings of words": (b"Subject: ", b"=?", b"\r\n\r\n"),
+    "adjacent words": (b"Subject:", b" =?utf-8?q?a?=", b"\r\n\r\n"),
+    "a word never closed": (b"Subject: =?utf-8?q?", b"a", b"\r\n\r\n"),
+    "a value of blanks": (b"Subject: a", b" ", b"b\r\n\r\n"),
     "carriage returns": (HEAD, b"\r", b""),
     "bytes that are no UTF-8": (HEAD, b"\xff", b""),
 }
