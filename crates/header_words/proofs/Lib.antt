@@ -1,4 +1,3 @@
-pub mod Blanks
 pub mod Cuts
 pub mod Examples
 pub mod FirstLine

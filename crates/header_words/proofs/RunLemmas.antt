@@ -1,15 +1,14 @@
 -- The first run of some bytes, and the runs after it.
-use Rattle.std.proofs.Common.{◌≡◌, ℕ, suc, ◌+◌, ◌<◌, Bool, true, false, not, ◌&&◌, ◌||◌, cond, eqb, List, [], ◌∷◌, ◌++◌, inl, inr, length, take, drop, refl, sym, ap, Result, Ok, Err, ◌∙◌, arith, append_assoc}
-use Rattle.std.specs.Prelude.{OnOk, if◌then◌else◌, is_ok}
-use Rattle.std.specs.declared.alloc.AllocError.{AllocError}
-use Rattle.std.specs.List.{prefix_len}
-use Rattle.std.specs.Str.{IsUtf8}
-use Rattle.std.specs.Str.Lossy.{utf8_lossy}
-use Rattle.std.proofs.lemmas.Str.{utf8_lossy-IsUtf8}
+use Rattle.std.proofs.Common.{◌≡◌, ℕ, suc, ◌+◌, ◌-◌, ◌<◌, ◌≤◌, Bool, true, false, not, ◌&&◌, ◌||◌, cond, eqb, List, [], ◌∷◌, ◌++◌, inl, inr, length, take, drop, get_or, zero, None, length-drop, refl, sym, ap, ◌∙◌, arith, append_assoc}
+use Rattle.std.specs.Prelude.{nat_le}
+use Rattle.std.specs.List.{All, list_any, prefix_len, suffix_len, slice_split}
 use Rattle.std.proofs.lemmas.Bool.{cases_Bool, eqb-false, eqb-true}
-use Rattle.std.proofs.lemmas.List.{nil_from_length, append-nil}
+use Rattle.std.proofs.lemmas.List.{nil_from_length, append-nil, take-append-drop}
+use Rattle.std.proofs.lemmas.List.Elements.{All-take, All-drop}
+use Rattle.std.proofs.lemmas.List.Folds.{list_any_at}
+use Rattle.std.proofs.lemmas.List.Splits.{slice_split_none}
 use Rattle.header_words.specs.Fields.{is_blank}
-use Rattle.header_words.specs.EncodedWords.{same_kind, onto_run, runs, run_len, next_run, said_between, said_after, said_of}
+use Rattle.header_words.specs.EncodedWords.{same_kind, onto_run, runs, run_len, next_run, said_between, said_after, said_of, is_question, word_of, inside, after_opening, opening_len, is_close, is_white}
 
 both_or_none : (x y : Bool) → ((x && y) || not (x || y)) ≡ true → x ≡ y
 both_or_none true true e = refl
@@ -74,15 +73,54 @@ say_on value text longer before rest run after next goes filled r a n l =
 pub say_all : (value text before rest : List ℕ) → text ++ said_after before (runs rest) ≡ said_of value → length rest ≡ 0 → text ≡ said_of value
 say_all value text before rest goes none = sym (append-nil text) ∙ sym (ap (λ ls. text ++ said_after before ls) (runs_none rest none)) ∙ goes
 
-pub lossy_valid : (bytes valid : List ℕ) → valid ≡ bytes → IsUtf8 bytes → valid ≡ utf8_lossy bytes
-lossy_valid bytes valid e text = e ∙ sym (utf8_lossy-IsUtf8 bytes text)
-
 -- before the first run
 pub say_first : (value text : List ℕ) → text ≡ [] → text ++ said_after [] (runs value) ≡ said_of value
 unfolding said_of
 say_first value text none = ap (λ t. t ++ said_after [] (runs value)) none
 
--- what is added is what the bytes say
-pub lossy_added : (bytes valid before after : List ℕ) (result : Result Unit AllocError) → valid ≡ bytes → IsUtf8 bytes → after ≡ (if is_ok result then before ++ valid else before) → OnOk result (after ≡ before ++ utf8_lossy bytes)
-lossy_added bytes valid before after (Ok done) e text added = added ∙ ap (λ x. before ++ x) (lossy_valid bytes valid e text)
-lossy_added bytes valid before after (Err fault) e text added = record {}
+-- ---- values without a question mark hold no word
+
+none_passes : (p : ℕ → Bool) (xs : List ℕ) → list_any p xs ≡ false → All (λ x. p x ≡ false) xs
+none_passes p xs e k d within =
+    elim (cases_Bool (p (get_or xs k d))) [
+      | inl passes ↦ absurd (let found : list_any p xs ≡ true = list_any_at p xs k d within passes in cc)
+      | inr fails ↦ fails
+    ]
+
+abbrev Plain : List ℕ → Type 0
+Plain bytes = All (λ b. is_question b ≡ false) bytes
+
+no_word : (bytes : List ℕ) → Plain bytes → word_of bytes ≡ None
+unfolding word_of
+no_word bytes plain =
+    let whole : slice_split is_question bytes ≡ bytes ∷ [] = slice_split_none is_question bytes plain in
+    elim (cases_Bool (nat_le (length bytes) 75)) [ inl short ↦ rw short (rw whole refl) | inr long ↦ rw long refl ]
+
+no_word_inside : (run : List ℕ) → Plain run → word_of (inside run) ≡ None
+no_word_inside run plain =
+    no_word (inside run) (All-take (λ b. is_question b ≡ false) (length (after_opening run) - suffix_len is_close (after_opening run)) (after_opening run) (All-drop (λ b. is_question b ≡ false) (opening_len run) run plain))
+
+said_plain : (before run next : List ℕ) → Plain before → Plain run → said_between before run next ≡ run
+said_plain before run next first plain =
+    let b : word_of (inside before) ≡ None = no_word_inside before first in
+    let r : word_of (inside run) ≡ None = no_word_inside run plain in
+    elim (cases_Bool (is_white run)) [ inl white ↦ rw white (rw b refl) | inr other ↦ rw other (rw r refl) ]
+
+said_after_plain : (n : ℕ) (before value : List ℕ) → length value ≤ n → Plain before → Plain value → said_after before (runs value) ≡ value
+said_after_plain n before [] few first plain = ap (said_after before) (runs_none [] refl)
+said_after_plain zero before (b ∷ bs) few first plain = absurd (omega arith)
+said_after_plain (suc n) before (b ∷ bs) few first plain =
+    let value : List ℕ = b ∷ bs in
+    let k = run_len value in
+    let run = take k value in
+    let rest = drop k value in
+    let shorter : length rest ≤ n = (let e : length rest ≡ length value - k = length-drop k value in omega arith) in
+    let head : Plain run = All-take (λ x. is_question x ≡ false) k value plain in
+    let tail : said_after run (runs rest) ≡ rest = said_after_plain n run rest shorter head (All-drop (λ x. is_question x ≡ false) k value plain) in
+    ap (said_after before) (runs-step b bs)
+    ∙ ap (λ t. t ++ said_after run (runs rest)) (said_plain before run (next_run (runs rest)) first head)
+    ∙ ap (λ t. run ++ t) tail ∙ take-append-drop k value
+
+pub said_of_plain : (value : List ℕ) → list_any is_question value ≡ false → value ≡ said_of value
+unfolding said_of
+said_of_plain value e = sym (said_after_plain (length value) [] value (omega arith) (λ k d within. absurd (omega arith)) (none_passes is_question value e))

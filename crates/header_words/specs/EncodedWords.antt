@@ -2,7 +2,6 @@
 use Rattle.std.specs.Prelude.{ℕ, suc, Bool, not, ◌&&◌, ◌||◌, ◌-◌, ◌+◌, ◌==◌, nat_lt, nat_le, if◌then◌else◌, List, [], ◌∷◌, ◌++◌, length, take, drop, codes, Option, Some, None, is_some, slice_index}
 use Rattle.std.specs.List.{list_all, flat_map, slice_split, before_first, prefix_len, suffix_len}
 use Rattle.std.specs.Str.{bytes_eq}
-use Rattle.std.specs.Str.Lossy.{utf8_lossy}
 use Rattle.transfer_codings.specs.declared.coding.Coding.{Coding}
 use Rattle.transfer_codings.specs.declared.coding.Coding.TheVariants.{Plain, Base64, Quoted}
 use Rattle.transfer_codings.specs.declared.charset.Charset.{Charset}
@@ -123,8 +122,8 @@ closing run = drop (opening_len run + length (inside run)) run
 
 -- what a run of other bytes than white space says
 abbrev pub said : List ℕ → Option EncodedWord → List ℕ
-said run None = utf8_lossy run
-said run (Some word) = utf8_lossy (opening run) ++ word_text word ++ utf8_lossy (closing run)
+said run None = run
+said run (Some word) = opening run ++ word_text word ++ closing run
 
 abbrev pub is_nothing : List ℕ → Bool
 is_nothing bytes = length bytes == 0
@@ -142,7 +141,7 @@ is_white run = is_blank (slice_index run 0)
 -- what a run says between two others: white space between two words is nothing
 abbrev pub said_between : List ℕ → List ℕ → List ℕ → List ℕ
 said_between before run after =
-    if is_white run then (if ends_with_word before && begins_with_word after then [] else utf8_lossy run)
+    if is_white run then (if ends_with_word before && begins_with_word after then [] else run)
     else said run (word_of (inside run))
 
 abbrev pub next_run : List (List ℕ) → List ℕ
@@ -153,6 +152,6 @@ abbrev pub said_after : List ℕ → List (List ℕ) → List ℕ
 said_after before [] = []
 said_after before (run ∷ more) = said_between before run (next_run more) ++ said_after run more
 
--- what a value says, in UTF-8
+-- what a value says: its words in UTF-8, other bytes as they stand
 unfoldable pub said_of : List ℕ → List ℕ
 said_of value = said_after [] (runs value)

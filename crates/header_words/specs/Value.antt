@@ -1,6 +1,7 @@
 -- The value of a field as a text.
-use Rattle.std.specs.Prelude.{◌≡◌, ◌<◌, ℕ, ◌-◌, List, [], ◌∷◌, ◌++◌, if◌then◌else◌, length, take, drop}
+use Rattle.std.specs.Prelude.{ℕ, ◌-◌, List, [], ◌∷◌, ◌++◌, if◌then◌else◌, length, take, drop}
 use Rattle.std.specs.List.{prefix_len, suffix_len, flat_map}
+use Rattle.std.specs.Str.Lossy.{utf8_lossy}
 use Rattle.header_words.specs.EncodedWords.{said_of}
 use Rattle.header_words.specs.Fields.{is_blank, is_continuation}
 
@@ -23,19 +24,10 @@ abbrev pub unfolded : List (List ℕ) → List ℕ
 unfolded [] = []
 unfolded (first ∷ more) = first ++ flat_map unfolded_line more
 
--- the text of a value: its words decoded, all else as it stands, without white space at both ends
+-- the text of a value: its words decoded, other bytes read as UTF-8, without white space at both ends
 unfoldable pub decoded_of : List (List ℕ) → List ℕ
-decoded_of lines = trimmed (said_of (unfolded lines))
+decoded_of lines = utf8_lossy (trimmed (said_of (unfolded lines)))
 
 -- bytes with one more line of a field
 abbrev pub unfolded_with : List ℕ → List ℕ → List ℕ
 unfolded_with value line = if is_continuation line then value ++ unfolded_line line else value
-
--- the text after a blank that stands first, before one that stands last
-pub record IsAfterBlank (text rest : List ℕ) : Type 0 where
-  pub shorter : length rest < length text
-  pub same : without_front text ≡ without_front rest
-
-pub record IsBeforeBlank (text rest : List ℕ) : Type 0 where
-  pub shorter : length rest < length text
-  pub same : without_back text ≡ without_back rest

@@ -1,24 +1,23 @@
 //! The value of a field as a text.
-ghost use Rattle.std.specs.Prelude.{◌≡◌, ◌++◌, IfOk, OnOk, IfSome, IfNone, string_bytes};
-ghost use Rattle.header_words.specs.Fields.{is_blank};
+ghost use Rattle.std.specs.Prelude.{◌≡◌, IfOk, OnOk, ◌++◌, string_bytes};
+ghost use Rattle.header_words.specs.Fields.{is_blank, is_continuation};
 ghost use Rattle.header_words.specs.Places.{raw_field};
-ghost use Rattle.header_words.specs.EncodedWords.{said_of};
-ghost use Rattle.header_words.specs.Value.{unfolded, unfolded_with, without_front, without_back, trimmed, decoded_of, IsAfterBlank, IsBeforeBlank};
+ghost use Rattle.header_words.specs.Value.{unfolded, unfolded_with, without_front, without_back, trimmed, decoded_of};
 
 use crate::bytes::{after_colon, first_line, goes_on};
 use crate::header::Field;
-use crate::runs::say_runs;
+use crate::runs::say;
 use std::alloc::{AllocError, Global};
 
-/// The value with folds made single spaces and encoded words decoded (RFC 2047), all else read as UTF-8 lossily, without
+/// The value with folds made single spaces and encoded words decoded (RFC 2047), other bytes read as UTF-8 lossily, without
 /// white space at its ends. A word of a charset that isn't read stays as it is written.
 #[tactic(auto, unfolding(crate::specs::Value::decoded_of))]
 pub fn decoded(alloc: Global, field: &Field<'_>) -> Result<String, AllocError>
     ensures { IfOk result (λ text. string_bytes text ≡ decoded_of field.now.lines) }
 {
     let value = unfold(alloc, field.raw())?;
-    let text = say_runs(alloc, &value)?;
-    String::from_str(alloc, trim(&text))
+    let said = say(alloc, value)?;
+    String::from_utf8_lossy(alloc, trim(&said))
 }
 
 /// The lines of a field's value as one.
@@ -41,13 +40,24 @@ fn unfold_line(value: &mut Vec<u8>, line: &[u8]) -> Result<(), AllocError>
 {
     if goes_on(line) {
         value.push(b' ')?;
-        value.extend_from_slice(without_blanks(line))?;
+        value.extend_from_slice(trim_front(line))?;
     }
     Ok(())
 }
 
-/// The bytes without the blanks at their front.
-fn without_blanks(bytes: &[u8]) -> &[u8]
+fn is_space(byte: u8) -> bool
+    ensures { result ≡ is_blank byte }
+{
+    byte == b' ' || byte == b'\t'
+}
+
+fn trim(bytes: &[u8]) -> &[u8]
+    ensures { result.now ≡ trimmed bytes.now }
+{
+    trim_back(trim_front(bytes))
+}
+
+fn trim_front(bytes: &[u8]) -> &[u8]
     ensures { result.now ≡ without_front bytes.now }
 {
     let mut rest = bytes;
@@ -60,63 +70,15 @@ fn without_blanks(bytes: &[u8]) -> &[u8]
     rest
 }
 
-fn is_space(byte: u8) -> bool
-    ensures { result ≡ is_blank byte }
+fn trim_back(bytes: &[u8]) -> &[u8]
+    ensures { result.now ≡ without_back bytes.now }
 {
-    byte == b' ' || byte == b'\t'
-}
-
-/// The text without white space at its ends.
-fn trim(text: &str) -> &str
-    ensures { result.now ≡ trimmed text.now }
-{
-    trim_back(trim_front(text))
-}
-
-fn trim_front(text: &str) -> &str
-    ensures { result.now ≡ without_front text.now }
-{
-    let mut rest = text;
-    while let Some(more) = after_blank(rest) {
+    let mut rest = bytes;
+    while let [more @ .., last] = rest {
+        if !is_space(*last) {
+            break;
+        }
         rest = more;
     }
     rest
-}
-
-fn trim_back(text: &str) -> &str
-    ensures { result.now ≡ without_back text.now }
-{
-    let mut rest = text;
-    while let Some(more) = before_blank(rest) {
-        rest = more;
-    }
-    rest
-}
-
-/// The text after a blank that stands first.
-fn after_blank(text: &str) -> Option<&str>
-    ensures found { IfSome result (λ rest. IsAfterBlank text.now rest.now) }
-    ensures none { IfNone result (without_front text.now ≡ text.now) }
-{
-    match text.strip_prefix(' ') {
-        Some(rest) => Some(rest),
-        None => match text.strip_prefix('\t') {
-            Some(rest) => Some(rest),
-            None => None,
-        },
-    }
-}
-
-/// The text before a blank that stands last.
-fn before_blank(text: &str) -> Option<&str>
-    ensures found { IfSome result (λ rest. IsBeforeBlank text.now rest.now) }
-    ensures none { IfNone result (without_back text.now ≡ text.now) }
-{
-    match text.strip_suffix(' ') {
-        Some(rest) => Some(rest),
-        None => match text.strip_suffix('\t') {
-            Some(rest) => Some(rest),
-            None => None,
-        },
-    }
 }

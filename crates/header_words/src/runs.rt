@@ -1,26 +1,43 @@
 //! The runs of white space and of other bytes in a value, and what they say.
-ghost use Rattle.std.specs.Prelude.{◌≡◌, ◌++◌, ◌<◌, length, IfOk, OnOk, string_bytes, take, drop};
-ghost use Rattle.std.specs.Str.Lossy.{utf8_lossy};
+ghost use Rattle.std.specs.Prelude.{◌≡◌, ◌++◌, ◌<◌, length, IfOk, OnOk, take, drop};
+ghost use Rattle.std.specs.List.{list_any};
 ghost use Rattle.header_words.specs.Fields.{is_blank};
-ghost use Rattle.header_words.specs.EncodedWords.{same_kind, run_len, runs, next_run, is_white, after_opening, before_closing, opening, inside, closing, begins_with_word, ends_with_word, said, word_of, said_between, said_of};
+ghost use Rattle.header_words.specs.EncodedWords.{same_kind, run_len, runs, next_run, is_white, after_opening, before_closing, opening, inside, closing, begins_with_word, ends_with_word, said, word_of, said_between, said_of, is_question};
 
 use crate::words::Word;
 use std::alloc::{AllocError, Global};
 
 /// What a value says: its encoded words decoded, all else as it stands.
-pub fn say_runs(alloc: Global, value: &[u8]) -> Result<String, AllocError>
-    ensures { IfOk result (λ text. string_bytes text ≡ said_of value.now) }
+pub fn say(alloc: Global, value: Vec<u8>) -> Result<Vec<u8>, AllocError>
+    ensures { IfOk result (λ bytes. bytes.items ≡ said_of value.items) }
 {
-    let mut text = String::new(alloc);
+    if has_question(&value) {
+        say_runs(alloc, &value)
+    } else {
+        Ok(value)
+    }
+}
+
+/// Whether a value may hold a word: without a question mark it holds none.
+fn has_question(value: &[u8]) -> bool
+    ensures { result ≡ list_any is_question value.now }
+{
+    value.iter().any(|byte| *byte == b'?')
+}
+
+fn say_runs(alloc: Global, value: &[u8]) -> Result<Vec<u8>, AllocError>
+    ensures { IfOk result (λ bytes. bytes.items ≡ said_of value.now) }
+{
+    let mut bytes = Vec::with_capacity(alloc, value.len())?;
     let mut before: &[u8] = &[];
     let mut rest = value;
     while !rest.is_empty() {
         let (run, after) = first_run(rest);
-        say_between(alloc, &mut text, before, run, next(after))?;
+        say_between(alloc, &mut bytes, before, run, next(after))?;
         before = run;
         rest = after;
     }
-    Ok(text)
+    Ok(bytes)
 }
 
 /// The first run, and what follows it.
@@ -63,19 +80,19 @@ fn next(bytes: &[u8]) -> &[u8]
 /// Adds what a run says between two others.
 fn say_between(
     alloc: Global,
-    text: &mut String,
+    bytes: &mut Vec<u8>,
     before: &[u8],
     run: &[u8],
     after: &[u8],
 ) -> Result<(), AllocError>
-    ensures { OnOk result (string_bytes text.new ≡ string_bytes text.old ++ said_between before.now run.now after.now) }
+    ensures { OnOk result (bytes.new.items ≡ bytes.old.items ++ said_between before.now run.now after.now) }
 {
     if !is_white_run(run) {
-        say(alloc, text, run)
+        say_run(alloc, bytes, run)
     } else if is_word_last(before) && is_word_first(after) {
         Ok(())
     } else {
-        push_lossily(alloc, text, run)
+        bytes.extend_from_slice(run)
     }
 }
 
@@ -89,17 +106,17 @@ fn is_white_run(run: &[u8]) -> bool
 }
 
 /// Adds what a run of other bytes than white space says.
-fn say(alloc: Global, text: &mut String, run: &[u8]) -> Result<(), AllocError>
-    ensures { OnOk result (string_bytes text.new ≡ string_bytes text.old ++ said run.now (word_of (inside run.now))) }
+fn say_run(alloc: Global, bytes: &mut Vec<u8>, run: &[u8]) -> Result<(), AllocError>
+    ensures { OnOk result (bytes.new.items ≡ bytes.old.items ++ said run.now (word_of (inside run.now))) }
 {
     let parts = around(run);
     match Word::read(parts.inside) {
         Some(word) => {
-            push_lossily(alloc, text, parts.opening)?;
-            text.push_str(&word.text(alloc)?)?;
-            push_lossily(alloc, text, parts.closing)
+            bytes.extend_from_slice(parts.opening)?;
+            bytes.extend_from_slice(word.text(alloc)?.as_bytes())?;
+            bytes.extend_from_slice(parts.closing)
         }
-        None => push_lossily(alloc, text, run),
+        None => bytes.extend_from_slice(run),
     }
 }
 
@@ -157,14 +174,4 @@ fn is_word_last(run: &[u8]) -> bool
 {
     let parts = around(run);
     Word::read(parts.inside).is_some() && parts.closing.is_empty()
-}
-
-/// Adds bytes, read as UTF-8 lossily.
-fn push_lossily(alloc: Global, text: &mut String, bytes: &[u8]) -> Result<(), AllocError>
-    ensures { OnOk result (string_bytes text.new ≡ string_bytes text.old ++ utf8_lossy bytes.now) }
-{
-    match std::str::from_utf8(bytes) {
-        Ok(valid) => text.push_str(valid),
-        Err(_) => text.push_str(&String::from_utf8_lossy(alloc, bytes)?),
-    }
 }

@@ -1,14 +1,9 @@
-use denote.Shadow.{shadow}
-use denote.Text.{Utf8}
 use Rattle.std.proofs.Common.{◌≡◌, length}
 use Rattle.header_words.specs.Value.{without_back}
 use Rattle.header_words.proofs.decoding.trim_back.Given as goal
 
-abbrev pub invariant-loop-more : goal.invariant-loop-more
-invariant-loop-more l = record {
-  text : shadow (Utf8 l.rest);
-  same : without_back l.text ≡ without_back l.rest;
-}
+abbrev pub invariant-loop-rest : goal.invariant-loop-rest
+invariant-loop-rest l = without_back l.rest ≡ without_back l.bytes
 
-abbrev pub decreases-loop-more : goal.decreases-loop-more
-decreases-loop-more l = length l.rest
+abbrev pub decreases-loop-rest : goal.decreases-loop-rest
+decreases-loop-rest l = length l.rest
