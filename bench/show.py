@@ -88,7 +88,7 @@ def main():
             ("plain text beside Python", seconds["plain text", LARGE] / seconds["plain text", "python"], 2),
             ("less-than signs beside Python", seconds["less-than signs", LARGE] / seconds["less-than signs", "python"], 1),
         ]
-        for name in ("header lines", "short header lines", "lines that are no field", "one folded field"):
+        for name in ("header lines", "lines that are no field", "one folded field"):
             bounds.append((f"{name} beside plain text", seconds[name, LARGE] / seconds["plain text", LARGE], 3))
         for name in SHAPES:
             bounds.append((f"{name}: growth of time", seconds[name, LARGE] / max(seconds[name, SMALL], 0.001), 12))
