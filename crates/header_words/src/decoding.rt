@@ -13,8 +13,15 @@ use std::alloc::{AllocError, Global};
 pub fn decoded(alloc: Global, field: &Field<'_>) -> Result<String, AllocError>
     ensures { IfOk result (λ text. string_bytes text ≡ decoded_of field.now.lines) }
 {
-    let value = unfold(alloc, field.raw())?;
+    let value = unfolded(alloc, field)?;
     String::from_utf8_lossy(alloc, trim(&value))
+}
+
+/// The value as bytes, with folds made single spaces.
+pub fn unfolded(alloc: Global, field: &Field<'_>) -> Result<Vec<u8>, AllocError>
+    ensures { IfOk result (λ value. value.items ≡ unfolded field.now.lines) }
+{
+    unfold(alloc, field.raw())
 }
 
 /// The lines of a field's value as one.
@@ -48,7 +55,8 @@ fn is_space(byte: u8) -> bool
     byte == b' ' || byte == b'\t'
 }
 
-fn trim(bytes: &[u8]) -> &[u8]
+/// Bytes without the spaces and TABs at their ends.
+pub fn trim(bytes: &[u8]) -> &[u8]
     ensures { result.now ≡ trimmed bytes.now }
 {
     trim_back(trim_front(bytes))

@@ -6,7 +6,7 @@ pub mod decoding;
 pub mod header;
 pub mod reading;
 
-pub use decoding::decoded;
+pub use decoding::{decoded, trim, unfolded};
 pub use header::{Field, Fields};
 pub use mail_io::Memory;
 pub use reading::fields;
