@@ -1,0 +1,4 @@
+pub mod BodyLemmas
+pub mod PieceLemmas
+pub mod OpeningLemmas
+pub mod BestLemmas
