@@ -1,5 +1,5 @@
 -- What the header of a part says of it (RFC 2045 §5 and §6, RFC 2183, RFC 3676 §4, RFC 2557 §4.2).
-use Rattle.std.specs.Prelude.{ℕ, ◌+◌, ◌-◌, Bool, false, not, ◌&&◌, ◌||◌, List, [], length, take, drop, ◌==◌, if◌then◌else◌, nat_lt, nat_eq, Option, Some, None, unwrap_or, codes, bytes_eq}
+use Rattle.std.specs.Prelude.{ℕ, ◌+◌, ◌-◌, Bool, false, not, ◌&&◌, ◌||◌, List, [], length, take, drop, ◌==◌, if◌then◌else◌, nat_lt, nat_eq, Option, Some, None, codes, bytes_eq}
 use Rattle.std.specs.List.{position_or_len, list_all, list_any, starts_with}
 use Rattle.std.specs.Option.{option_map_or, option_or}
 use Rattle.std.specs.Str.{str_to_ascii_lowercase, str_eq_ignore_ascii_case}
@@ -37,16 +37,16 @@ abbrev pub readable : List ℕ → List ℕ
 readable value = if is_type (first_piece value) then value else []
 
 abbrev pub mime_of : List ℕ → List ℕ → List ℕ
-mime_of default kind = if length kind == 0 then default else utf8_lossy (str_to_ascii_lowercase (first_piece kind))
+mime_of default kind = if length kind == 0 then default else str_to_ascii_lowercase (first_piece kind)
 
 -- an empty boundary is a missing one
 abbrev pub filled : Option (List ℕ) → Option (List ℕ)
 filled None = None
 filled (Some xs) = if length xs == 0 then None else Some xs
 
--- the text of a parameter
+-- the text of a parameter, or another where it is missing
 abbrev pub text_of : Option (List ℕ) → List ℕ → List ℕ
-text_of found default = utf8_lossy (unwrap_or found default)
+text_of found default = option_map_or utf8_lossy found default
 
 -- the coding of a Content-Transfer-Encoding, if it is known; a missing one is 7bit
 abbrev pub coding_named : List ℕ → Option Coding

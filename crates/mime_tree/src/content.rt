@@ -1,11 +1,11 @@
 //! What the header of a part says of it (RFC 2045, RFC 2183).
-ghost use Rattle.std.specs.Prelude.{◌≡◌, length, IfOk, codes, []};
+ghost use Rattle.std.specs.Prelude.{◌≡◌, ◌⊎◌, true, length, IfOk, codes, []};
 ghost use Rattle.std.specs.List.{list_all};
 ghost use Rattle.std.specs.Option.{option_or};
 ghost use Rattle.std.specs.Str.{str_to_ascii_lowercase};
 ghost use Rattle.std.specs.Str.Lossy.{utf8_lossy};
 ghost use Rattle.header_words.specs.Value.{trimmed};
-ghost use Rattle.mime_tree.specs.Pieces.{parameter};
+ghost use Rattle.mime_tree.specs.Pieces.{parameter, first_piece};
 ghost use Rattle.mime_tree.specs.Content.{content_of, field_value, is_token, is_token_byte, is_type, readable, mime_of, filled, text_of, coding_named, is_attachment, id_in, location_in, is_word, format_of, is_multipart, is_message, is_alternative};
 
 use crate::lines::{is_named, place_of};
@@ -70,7 +70,8 @@ fn field_value(alloc: Global, fields: &Fields<'_>, name: &str) -> Result<Bytes, 
 
 /// The Content-Type, or nothing where its type doesn't read.
 fn readable_type(alloc: Global, fields: &Fields<'_>) -> Result<Bytes, AllocError>
-    ensures { IfOk result (λ kind. kind ≡ readable (field_value (codes "Content-Type") fields.now.fields)) }
+    ensures reads { IfOk result (λ kind. length kind ≡ 0 ⊎ is_type (first_piece kind) ≡ true) }
+    ensures is { IfOk result (λ kind. kind ≡ readable (field_value (codes "Content-Type") fields.now.fields)) }
 {
     let kind = field_value(alloc, fields, "Content-Type")?;
     if is_type(first_piece(kind.as_slice())) {
@@ -105,14 +106,24 @@ fn is_token_byte(byte: u8) -> bool
     byte > 32 && byte < 127 && !b"()<>@,;:\\\"/[]?=".contains(&byte)
 }
 
+/// The type in lower case, or another where there is none.
 fn mime(alloc: Global, default: &str, kind: &[u8]) -> Result<Text, AllocError>
+    requires { length kind.now ≡ 0 ⊎ is_type (first_piece kind.now) ≡ true }
     ensures { IfOk result (λ mime. mime ≡ mime_of default.now kind.now) }
 {
     if kind.is_empty() {
         return Text::from_text(alloc, default);
     }
-    let lowered = first_piece(kind).to_ascii_lowercase(alloc)?;
-    lossy(alloc, &lowered)
+    lowered(alloc, first_piece(kind))
+}
+
+/// A type in lower case.
+fn lowered(alloc: Global, mime: &[u8]) -> Result<Text, AllocError>
+    requires { is_type mime.now ≡ true }
+    ensures { IfOk result (λ text. text ≡ str_to_ascii_lowercase mime.now) }
+{
+    let lowered = mime.to_ascii_lowercase(alloc)?;
+    Ok(Text::from_string(String::from_utf8_lossy(alloc, &lowered)?))
 }
 
 /// Bytes as a text.
@@ -136,7 +147,7 @@ fn charset(alloc: Global, kind: &[u8]) -> Result<Text, AllocError>
 {
     match parameter(alloc, b"charset", kind)? {
         Some(charset) => lossy(alloc, charset.as_slice()),
-        None => lossy(alloc, b"utf-8"),
+        None => Text::from_text(alloc, "utf-8"),
     }
 }
 
@@ -174,7 +185,7 @@ fn name(alloc: Global, disposition: &[u8], kind: &[u8]) -> Result<Text, AllocErr
     }
     match parameter(alloc, b"name", kind)? {
         Some(name) => named(alloc, name.as_slice()),
-        None => named(alloc, b""),
+        None => Text::from_text(alloc, ""),
     }
 }
 
