@@ -20,3 +20,6 @@ pub use parts::{Part, Tree};
 pub use reading::tree;
 pub use std::alloc::AllocError as Memory;
 pub use transfer_codings::Coding;
+
+#[cfg(test)]
+mod tests;
