@@ -24,6 +24,10 @@ abbrev pub unfolded : List (List ℕ) → List ℕ
 unfolded [] = []
 unfolded (first ∷ more) = first ++ flat_map unfolded_line more
 
+-- a text with its words decoded, other bytes read as UTF-8
+abbrev pub words_decoded : List ℕ → List ℕ
+words_decoded text = utf8_lossy (said_of text)
+
 -- the text of a value: its words decoded, other bytes read as UTF-8, without white space at both ends
 unfoldable pub decoded_of : List (List ℕ) → List ℕ
 decoded_of lines = utf8_lossy (trimmed (said_of (unfolded lines)))

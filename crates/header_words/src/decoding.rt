@@ -2,7 +2,7 @@
 ghost use Rattle.std.specs.Prelude.{◌≡◌, IfOk, OnOk, ◌++◌, string_bytes};
 ghost use Rattle.header_words.specs.Fields.{is_blank, is_continuation};
 ghost use Rattle.header_words.specs.Places.{raw_field};
-ghost use Rattle.header_words.specs.Value.{unfolded, unfolded_with, without_front, without_back, trimmed, decoded_of};
+ghost use Rattle.header_words.specs.Value.{unfolded, unfolded_with, without_front, without_back, trimmed, words_decoded, decoded_of};
 
 use crate::bytes::{after_colon, first_line, goes_on};
 use crate::header::Field;
@@ -15,9 +15,25 @@ use std::alloc::{AllocError, Global};
 pub fn decoded(alloc: Global, field: &Field<'_>) -> Result<String, AllocError>
     ensures { IfOk result (λ text. string_bytes text ≡ decoded_of field.now.lines) }
 {
-    let value = unfold(alloc, field.raw())?;
+    let value = unfolded(alloc, field)?;
     let said = say(alloc, value)?;
     String::from_utf8_lossy(alloc, trim(&said))
+}
+
+/// A text with its encoded words decoded, other bytes read as UTF-8 lossily: what `decoded` does to a value, for a text that
+/// stands within one, as a file's name does.
+pub fn decoded_words(alloc: Global, text: &[u8]) -> Result<String, AllocError>
+    ensures { IfOk result (λ decoded. string_bytes decoded ≡ words_decoded text.now) }
+{
+    let said = say(alloc, Vec::from_slice(alloc, text)?)?;
+    String::from_utf8_lossy(alloc, &said)
+}
+
+/// The value as bytes, with folds made single spaces.
+pub fn unfolded(alloc: Global, field: &Field<'_>) -> Result<Vec<u8>, AllocError>
+    ensures { IfOk result (λ value. value.items ≡ unfolded field.now.lines) }
+{
+    unfold(alloc, field.raw())
 }
 
 /// The lines of a field's value as one.
@@ -51,7 +67,8 @@ fn is_space(byte: u8) -> bool
     byte == b' ' || byte == b'\t'
 }
 
-fn trim(bytes: &[u8]) -> &[u8]
+/// Bytes without the spaces and TABs at their ends.
+pub fn trim(bytes: &[u8]) -> &[u8]
     ensures { result.now ≡ trimmed bytes.now }
 {
     trim_back(trim_front(bytes))

@@ -8,7 +8,7 @@ pub mod reading;
 mod runs;
 mod words;
 
-pub use decoding::decoded;
+pub use decoding::{decoded, decoded_words, trim, unfolded};
 pub use header::{Field, Fields};
 pub use mail_io::Memory;
 pub use reading::fields;

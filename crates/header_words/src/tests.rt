@@ -56,6 +56,8 @@ fn finds_the_first_of_a_name(rt: HostRuntime) -> Result<(), Fail> {
             Some(field) => {
                 let value = decoded(alloc, &field)?;
                 assert_eq!(rt; value.as_str(), want.ok_or("no field")?, "{name}");
+                let bytes = unfolded(alloc, &field)?;
+                assert_eq!(rt; trim(&bytes), value.as_bytes(), "{name}");
             }
             None => assert!(rt; want.is_none(), "{name}"),
         }

@@ -1,0 +1,8 @@
+mod Examples
+mod Newsletter
+mod BestExamples
+pub mod BodyLemmas
+pub mod PieceLemmas
+pub mod OpeningLemmas
+pub mod BestLemmas
+pub mod ContentLemmas

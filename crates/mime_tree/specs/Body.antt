@@ -1,0 +1,66 @@
+-- The lines of a text, the delimiter lines of a boundary among them, and the places between those.
+use Rattle.std.specs.Prelude.{ℕ, ◌+◌, ◌≤◌, Bool, ◌&&◌, ◌||◌, List, [], ◌∷◌, length, drop, max, if◌then◌else◌, filter, nat_eq, nat_lt, codes}
+use Rattle.std.specs.List.{slice_split, list_all, starts_with}
+use Rattle.std.specs.Str.Lines.{strip_carriage_return}
+use Rattle.header_words.specs.Fields.{is_blank}
+use Rattle.header_words.specs.Lines.{is_newline}
+use Rattle.mime_tree.specs.declared.body.Range.{Range}
+
+-- a line: where the line break before it begins, where the line after it begins, and its text
+pub record Line : Type 0 where
+  pub start : ℕ
+  pub next : ℕ
+  pub text : List ℕ
+
+-- the lines, from the parts between newlines, of which the first begins at `at`; an empty last part is no line
+abbrev pub placed : ℕ → ℕ → List (List ℕ) → List Line
+placed start at [] = []
+placed start at (x ∷ []) = if nat_lt 0 (length x) then record { start = start; next = at + length x; text = x } ∷ [] else []
+placed start at (x ∷ y ∷ more) =
+    record { start = start; next = at + (length x + 1); text = strip_carriage_return x }
+    ∷ placed (at + length (strip_carriage_return x)) (at + (length x + 1)) (y ∷ more)
+
+abbrev pub lines_from : ℕ → ℕ → List ℕ → List Line
+lines_from start at text = placed start at (slice_split is_newline text)
+
+-- a delimiter line is `--`, the boundary, optional `--`, and blanks
+abbrev pub begins : List ℕ → List ℕ → Bool
+begins boundary text = starts_with nat_eq text (codes "--") && starts_with nat_eq (drop 2 text) boundary
+
+abbrev pub tail_of : List ℕ → List ℕ → List ℕ
+tail_of boundary text = drop (2 + length boundary) text
+
+abbrev pub opens : List ℕ → List ℕ → Bool
+opens boundary text = begins boundary text && list_all is_blank (tail_of boundary text)
+
+unfoldable pub closes : List ℕ → List ℕ → Bool
+closes boundary text =
+    begins boundary text && (starts_with nat_eq (tail_of boundary text) (codes "--") && list_all is_blank (drop 2 (tail_of boundary text)))
+
+unfoldable pub delimits : List ℕ → List ℕ → Bool
+delimits boundary text = opens boundary text || closes boundary text
+
+abbrev pub is_delimiter : List ℕ → Line → Bool
+is_delimiter boundary l = delimits boundary l.text
+
+abbrev pub range : ℕ → ℕ → Range
+range from to = record { from = from; to = to }
+
+-- the places after a delimiter that ends at `from`: each goes to the line break before the next delimiter, the last to the end of the text
+abbrev pub places_after : List ℕ → ℕ → ℕ → List Line → List Range
+places_after boundary end from [] = range from end ∷ []
+places_after boundary end from (d ∷ more) =
+    range from (max from d.start) ∷ (if closes boundary d.text then [] else places_after boundary end d.next more)
+
+abbrev pub places_between : List ℕ → ℕ → List Line → List Range
+places_between boundary end [] = []
+places_between boundary end (d ∷ more) = if closes boundary d.text then [] else places_after boundary end d.next more
+
+-- the places of a multipart's parts in its body
+unfoldable pub places : List ℕ → List ℕ → List Range
+places boundary text = places_between boundary (length text) (filter (is_delimiter boundary) (lines_from 0 0 text))
+
+-- a place within a text of this length
+pub record IsWithin (size : ℕ) (r : Range) : Type 0 where
+  pub ordered : r.from ≤ r.to
+  pub within : r.to ≤ size

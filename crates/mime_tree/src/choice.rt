@@ -1,0 +1,161 @@
+//! The part of a section, and the part that a reader is shown.
+ghost use Rattle.std.specs.Prelude.{◌≡◌, ◌++◌, ◌∷◌, [], ◌≤◌, length, reverse, find};
+ghost use Rattle.std.specs.Option.{option_copied};
+ghost use Rattle.mime_tree.specs.Best.{part_at, has_section, is_html, is_text, counts, counts_in, is_alternative_at, taken_in, given, shown_as, best_of};
+
+use crate::parts::{Part, Tree};
+use mail_io::Section;
+use transfer_codings::charset_of;
+
+/// The most numbers of a section.
+const DEPTH: usize = 40;
+
+/// What a reader is shown of a message.
+#[derive(Clone, Copy, Debug, PartialEq, Eq)]
+pub enum Shown {
+    /// A plain text.
+    Plain(Section),
+    /// A text of format flowed, and whether DelSp is yes (RFC 3676).
+    Flowed(Section, bool),
+    /// An HTML page.
+    Html(Section),
+    /// A text or a page in a charset that isn't read.
+    Unread(Section),
+    Nothing,
+}
+
+/// The part of a section.
+pub fn part<'t, 'a>(tree: &'t Tree<'a>, section: &Section) -> Option<&'t Part<'a>>
+    ensures { option_copied result ≡ part_at section.now tree.now.parts }
+{
+    part_of(tree, section.numbers())
+}
+
+fn part_of<'t, 'a>(tree: &'t Tree<'a>, numbers: &[u16]) -> Option<&'t Part<'a>>
+    ensures { option_copied result ≡ part_at numbers.now tree.now.parts }
+{
+    tree.parts().iter().find(|part| has_numbers(part, numbers))
+}
+
+fn has_numbers(part: &Part<'_>, numbers: &[u16]) -> bool
+    ensures { result ≡ has_section numbers.now part.now }
+{
+    part.section().numbers() == numbers
+}
+
+/// What a reader is shown of a message: in an alternative what the last child that has something to show gives, in every
+/// other multipart the first. Messages in the message aren't entered.
+#[tactic(auto, unfolding(crate::specs::Best::best_of))]
+pub fn best(tree: &Tree<'_>) -> Shown
+    ensures { result ≡ best_of tree.now }
+{
+    if let Some(part) = given(tree) {
+        return shown_as(part);
+    }
+    match first_text(tree) {
+        Some(part) => Shown::Unread(*part.section()),
+        None => Shown::Nothing,
+    }
+}
+
+/// The first text or page, whatever its charset.
+fn first_text<'t, 'a>(tree: &'t Tree<'a>) -> Option<&'t Part<'a>>
+    ensures { option_copied result ≡ find is_text tree.now.parts }
+{
+    tree.parts().iter().find(|part| is_text(part))
+}
+
+/// The leaf that a message gives.
+fn given<'t, 'a>(tree: &'t Tree<'a>) -> Option<&'t Part<'a>>
+    ensures { option_copied result ≡ given 40 tree.now [] }
+{
+    let mut around: &[u16] = &[];
+    for _step in 0..DEPTH {
+        let taken = taken_in(tree, around)?;
+        let numbers = taken.section().numbers();
+        let size = around.len() + 1;
+        if numbers.len() <= size {
+            return Some(taken);
+        }
+        around = &numbers[..size];
+    }
+    None
+}
+
+/// The leaf whose child of a multipart is taken.
+fn taken_in<'t, 'a>(tree: &'t Tree<'a>, around: &[u16]) -> Option<&'t Part<'a>>
+    ensures { option_copied result ≡ taken_in tree.now around.now }
+{
+    if is_alternative_at(tree, around) {
+        last_in(tree, around)
+    } else {
+        first_in(tree, around)
+    }
+}
+
+fn first_in<'t, 'a>(tree: &'t Tree<'a>, around: &[u16]) -> Option<&'t Part<'a>>
+    ensures { option_copied result ≡ find (counts_in around.now) tree.now.parts }
+{
+    tree.parts().iter().find(|part| counts_in(around, part))
+}
+
+fn last_in<'t, 'a>(tree: &'t Tree<'a>, around: &[u16]) -> Option<&'t Part<'a>>
+    ensures { option_copied result ≡ find (counts_in around.now) (reverse tree.now.parts) }
+{
+    tree.parts()
+        .iter()
+        .rev()
+        .find(|part| counts_in(around, part))
+}
+
+/// Whether the multipart of a section is an alternative; the one of no number is the message itself.
+fn is_alternative_at(tree: &Tree<'_>, around: &[u16]) -> bool
+    ensures { result ≡ is_alternative_at tree.now around.now }
+{
+    if around.is_empty() {
+        return tree.is_alternative();
+    }
+    match part_of(tree, around) {
+        Some(part) => part.mime() == "multipart/alternative",
+        None => false,
+    }
+}
+
+/// Whether a part is a leaf that counts, in the multipart of a section.
+fn counts_in(around: &[u16], part: &Part<'_>) -> bool
+    ensures { result ≡ counts_in around.now part.now }
+{
+    counts(part) && part.section().numbers().starts_with(around)
+}
+
+/// Whether a part is a text or a page of a read charset, neither attached nor in a message in the message.
+fn counts(part: &Part<'_>) -> bool
+    ensures { result ≡ counts part.now }
+{
+    is_text(part) && charset_of(part.charset().as_bytes()).is_some()
+}
+
+fn is_text(part: &Part<'_>) -> bool
+    ensures { result ≡ is_text part.now }
+{
+    (part.mime() == "text/plain" || is_html(part)) && !part.is_attached() && !part.is_enclosed()
+}
+
+fn is_html(part: &Part<'_>) -> bool
+    ensures { result ≡ is_html part.now }
+{
+    part.mime() == "text/html"
+}
+
+fn shown_as(part: &Part<'_>) -> Shown
+    ensures { result ≡ shown_as part.now }
+{
+    let section = *part.section();
+    if is_html(part) {
+        return Shown::Html(section);
+    }
+    match part.format() {
+        Some(del_sp) => Shown::Flowed(section, del_sp),
+        None => Shown::Plain(section),
+    }
+}

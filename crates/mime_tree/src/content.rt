@@ -1,0 +1,271 @@
+//! What the header of a part says of it (RFC 2045, RFC 2183).
+ghost use Rattle.std.specs.Prelude.{◌≡◌, ◌⊎◌, true, length, IfOk, codes, []};
+ghost use Rattle.std.specs.List.{list_all};
+ghost use Rattle.std.specs.Option.{option_or};
+ghost use Rattle.std.specs.Str.{str_to_ascii_lowercase};
+ghost use Rattle.std.specs.Str.Lossy.{utf8_lossy};
+ghost use Rattle.header_words.specs.Value.{trimmed, words_decoded};
+ghost use Rattle.mime_tree.specs.Pieces.{parameter, first_piece};
+ghost use Rattle.mime_tree.specs.Content.{content_of, field_value, is_token, is_token_byte, is_type, readable, mime_of, filled, text_of, name_of, coding_named, is_attachment, id_in, location_in, is_word, format_of, is_multipart, is_message, is_alternative};
+
+use crate::lines::{is_named, place_of};
+use crate::pieces::{first_piece, parameter};
+use header_words::{Fields, decoded_words, trim, unfolded};
+use mail_io::{Bytes, Text};
+use std::alloc::{AllocError, Global};
+use transfer_codings::Coding;
+
+/// What the header of a part says of it.
+#[derive(Drop)]
+pub struct Content {
+    pub mime: Text,
+    pub boundary: Option<Bytes>,
+    pub charset: Text,
+    /// None where the coding is unknown.
+    pub coding: Option<Coding>,
+    pub attached: bool,
+    pub name: Text,
+    pub id: Option<Bytes>,
+    pub location: Option<Text>,
+    /// Some where the format is flowed: whether DelSp is yes.
+    pub format: Option<bool>,
+}
+
+/// What a header says, where the type of a part with none is `default`.
+#[tactic(auto, unfolding(crate::specs::Content::content_of))]
+pub fn read_content(
+    alloc: Global,
+    default: &str,
+    fields: &Fields<'_>,
+) -> Result<Content, AllocError>
+    ensures { IfOk result (λ c. c ≡ content_of default.now fields.now.fields) }
+{
+    let kind = readable_type(alloc, fields)?;
+    let disposition = field_value(alloc, fields, "Content-Disposition")?;
+    let coding = field_value(alloc, fields, "Content-Transfer-Encoding")?;
+    let id = field_value(alloc, fields, "Content-ID")?;
+    let location = field_value(alloc, fields, "Content-Location")?;
+    Ok(Content {
+        mime: mime(alloc, default, kind.as_slice())?,
+        boundary: boundary(alloc, kind.as_slice())?,
+        charset: charset(alloc, kind.as_slice())?,
+        coding: coding_of(trim(coding.as_slice())),
+        attached: is_attached(disposition.as_slice()),
+        name: name(alloc, disposition.as_slice(), kind.as_slice())?,
+        id: id_of(alloc, trim(id.as_slice()))?,
+        location: location_of(alloc, trim(location.as_slice()))?,
+        format: format(alloc, kind.as_slice())?,
+    })
+}
+
+/// The value of the first field of a name without its folds, or nothing.
+fn field_value(alloc: Global, fields: &Fields<'_>, name: &str) -> Result<Bytes, AllocError>
+    ensures { IfOk result (λ value. value ≡ field_value name.now fields.now.fields) }
+{
+    match fields.first(name) {
+        Some(field) => Ok(Bytes::from_vec(unfolded(alloc, &field)?)),
+        None => Ok(Bytes::from_vec(Vec::new(alloc))),
+    }
+}
+
+/// The Content-Type, or nothing where its type doesn't read.
+fn readable_type(alloc: Global, fields: &Fields<'_>) -> Result<Bytes, AllocError>
+    ensures reads { IfOk result (λ kind. length kind ≡ 0 ⊎ is_type (first_piece kind) ≡ true) }
+    ensures is { IfOk result (λ kind. kind ≡ readable (field_value (codes "Content-Type") fields.now.fields)) }
+{
+    let kind = field_value(alloc, fields, "Content-Type")?;
+    if is_type(first_piece(kind.as_slice())) {
+        return Ok(kind);
+    }
+    Ok(Bytes::from_vec(Vec::new(alloc)))
+}
+
+/// Whether a text is two tokens with `/` between.
+fn is_type(text: &[u8]) -> bool
+    ensures { result ≡ is_type text.now }
+{
+    let at = place_of(b'/', text);
+    at < text.len() && is_token(&text[..at]) && is_token(&text[at + 1..])
+}
+
+fn is_token(text: &[u8]) -> bool
+    ensures { result ≡ is_token text.now }
+{
+    !text.is_empty() && has_token_bytes(text)
+}
+
+fn has_token_bytes(text: &[u8]) -> bool
+    ensures { result ≡ list_all is_token_byte text.now }
+{
+    text.iter().all(|b| is_token_byte(*b))
+}
+
+fn is_token_byte(byte: u8) -> bool
+    ensures { result ≡ is_token_byte byte }
+{
+    byte > 32 && byte < 127 && !b"()<>@,;:\\\"/[]?=".contains(&byte)
+}
+
+/// The type in lower case, or another where there is none.
+fn mime(alloc: Global, default: &str, kind: &[u8]) -> Result<Text, AllocError>
+    requires { length kind.now ≡ 0 ⊎ is_type (first_piece kind.now) ≡ true }
+    ensures { IfOk result (λ mime. mime ≡ mime_of default.now kind.now) }
+{
+    if kind.is_empty() {
+        return Text::from_text(alloc, default);
+    }
+    lowered(alloc, first_piece(kind))
+}
+
+/// A type in lower case.
+fn lowered(alloc: Global, mime: &[u8]) -> Result<Text, AllocError>
+    requires { is_type mime.now ≡ true }
+    ensures { IfOk result (λ text. text ≡ str_to_ascii_lowercase mime.now) }
+{
+    let lowered = mime.to_ascii_lowercase(alloc)?;
+    Ok(Text::from_string(String::from_utf8_lossy(alloc, &lowered)?))
+}
+
+/// Bytes as a text.
+fn lossy(alloc: Global, bytes: &[u8]) -> Result<Text, AllocError>
+    ensures { IfOk result (λ text. text ≡ utf8_lossy bytes.now) }
+{
+    Ok(Text::from_string(String::from_utf8_lossy(alloc, bytes)?))
+}
+
+fn boundary(alloc: Global, kind: &[u8]) -> Result<Option<Bytes>, AllocError>
+    ensures { IfOk result (λ found. found ≡ filled (parameter (codes "boundary") kind.now)) }
+{
+    match parameter(alloc, b"boundary", kind)? {
+        Some(boundary) if !boundary.as_slice().is_empty() => Ok(Some(boundary)),
+        _ => Ok(None),
+    }
+}
+
+fn charset(alloc: Global, kind: &[u8]) -> Result<Text, AllocError>
+    ensures { IfOk result (λ text. text ≡ text_of (parameter (codes "charset") kind.now) (codes "utf-8")) }
+{
+    match parameter(alloc, b"charset", kind)? {
+        Some(charset) => lossy(alloc, charset.as_slice()),
+        None => Text::from_text(alloc, "utf-8"),
+    }
+}
+
+fn coding_of(name: &[u8]) -> Option<Coding>
+    ensures { result ≡ coding_named name.now }
+{
+    if name.is_empty()
+        || is_named(name, b"7bit")
+        || is_named(name, b"8bit")
+        || is_named(name, b"binary")
+    {
+        return Some(Coding::Plain);
+    }
+    if is_named(name, b"base64") {
+        return Some(Coding::Base64);
+    }
+    if is_named(name, b"quoted-printable") {
+        return Some(Coding::Quoted);
+    }
+    None
+}
+
+fn is_attached(disposition: &[u8]) -> bool
+    ensures { result ≡ is_attachment disposition.now }
+{
+    is_named(first_piece(disposition), b"attachment")
+}
+
+/// The name of a file that a part is to be saved as.
+fn name(alloc: Global, disposition: &[u8], kind: &[u8]) -> Result<Text, AllocError>
+    ensures { IfOk result (λ text. text ≡ name_of (option_or (parameter (codes "filename") disposition.now) (parameter (codes "name") kind.now))) }
+{
+    if let Some(name) = parameter(alloc, b"filename", disposition)? {
+        return named(alloc, name.as_slice());
+    }
+    match parameter(alloc, b"name", kind)? {
+        Some(name) => named(alloc, name.as_slice()),
+        None => Text::from_text(alloc, ""),
+    }
+}
+
+/// The text of a parameter that names a file: many mailers write encoded words there.
+fn named(alloc: Global, value: &[u8]) -> Result<Text, AllocError>
+    ensures { IfOk result (λ text. text ≡ words_decoded value.now) }
+{
+    Ok(Text::from_string(decoded_words(alloc, value)?))
+}
+
+/// What a Content-ID has between `<` and `>`.
+fn id_of(alloc: Global, value: &[u8]) -> Result<Option<Bytes>, AllocError>
+    ensures { IfOk result (λ found. found ≡ id_in value.now) }
+{
+    if value.len() > 1 && value.starts_with(b"<") && value[value.len() - 1..].starts_with(b">") {
+        let id = &value[1..value.len() - 1];
+        return Ok(Some(Bytes::from_slice(alloc, id)?));
+    }
+    Ok(None)
+}
+
+fn location_of(alloc: Global, value: &[u8]) -> Result<Option<Text>, AllocError>
+    ensures { IfOk result (λ found. found ≡ location_in value.now) }
+{
+    if value.is_empty() {
+        return Ok(None);
+    }
+    Ok(Some(lossy(alloc, value)?))
+}
+
+fn is_word(word: &[u8], found: &Option<Bytes>) -> bool
+    ensures { result ≡ is_word word.now found.now }
+{
+    match found {
+        Some(value) => is_named(value.as_slice(), word),
+        None => false,
+    }
+}
+
+/// Whether DelSp is yes, where the format is flowed (RFC 3676 §4).
+fn format(alloc: Global, kind: &[u8]) -> Result<Option<bool>, AllocError>
+    ensures { IfOk result (λ found. found ≡ format_of kind.now) }
+{
+    if !is_word(b"flowed", &parameter(alloc, b"format", kind)?) {
+        return Ok(None);
+    }
+    let del_sp = parameter(alloc, b"delsp", kind)?;
+    Ok(Some(is_word(b"yes", &del_sp)))
+}
+
+/// Whether a type is that of a multipart.
+pub fn has_parts(mime: &str) -> bool
+    ensures { result ≡ is_multipart mime.now }
+{
+    mime.as_bytes().starts_with(b"multipart/")
+}
+
+/// Whether a type is that of a message.
+pub fn has_message(mime: &str) -> bool
+    ensures { result ≡ is_message mime.now }
+{
+    mime == "message/rfc822"
+}
+
+impl Content {
+    pub fn is_multipart(&self) -> bool
+        ensures { result ≡ is_multipart self.now.mime }
+    {
+        has_parts(self.mime.as_str())
+    }
+
+    pub fn is_message(&self) -> bool
+        ensures { result ≡ is_message self.now.mime }
+    {
+        has_message(self.mime.as_str())
+    }
+
+    pub fn is_alternative(&self) -> bool
+        ensures { result ≡ is_alternative self.now.mime }
+    {
+        self.mime.as_str() == "multipart/alternative"
+    }
+}

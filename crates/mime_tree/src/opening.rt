@@ -1,0 +1,380 @@
+//! Opens the multiparts and messages of a message, in tree order.
+ghost use Rattle.std.specs.Prelude.{◌≡◌, ◌+◌, ◌-◌, ◌<◌, ◌≤◌, ◌++◌, ◌∷◌, [], length, IfOk, OnOk, IfSome, IfNone, All, reverse, codes, unwrap_or, slice_range, true, false, ◌&&◌, IsTrue, Some, None};
+ghost use Rattle.mail_io.specs.Section.{numbers_of};
+ghost use Rattle.mime_tree.specs.Body.{IsWithin};
+ghost use Rattle.mime_tree.specs.Content.{is_multipart, is_message, is_alternative, default_in};
+ghost use Rattle.mime_tree.specs.Tree.{PartValue};
+ghost use Rattle.mime_tree.specs.Opening.{node_at, inside, can_open, section_of, prefix_of, is_body, part_of, own, parts_of, message_of, settle, opens_beside, children_from, is_raw, IsSound};
+ghost use Rattle.mime_tree.specs.declared.node.Position.TheVariants.{Body, Child};
+
+use crate::body::{Range, places_within};
+use crate::content::{Content, read_content};
+use crate::node::{Node, Position};
+use crate::parts::Part;
+use header_words::fields;
+use mail_io::Section;
+use std::alloc::{AllocError, Global};
+
+/// The most parts of a tree.
+const MOST_PARTS: usize = 1000;
+
+/// So many steps open everything: each opens a node or makes it a leaf.
+const MOST_STEPS: usize = 2001;
+
+/// The most multiparts and messages around one that is opened.
+const MOST_AROUND: usize = 32;
+
+/// The message itself, not yet opened.
+#[tactic(auto, unfolding(crate::specs::Opening::message_of))]
+pub fn message(alloc: Global, bytes: &[u8]) -> Result<Node, AllocError>
+    ensures is { IfOk result (λ n. n ≡ message_of bytes.now) }
+    ensures sound { IfOk result (λ n. IsSound bytes.now n) }
+{
+    let whole = Range {
+        from: 0,
+        to: bytes.len(),
+    };
+    node_in(
+        alloc,
+        bytes,
+        "text/plain",
+        Position::Body(None),
+        0,
+        false,
+        whole,
+    )
+}
+
+/// The parts of a message.
+pub fn parts_in<'a>(
+    alloc: Global,
+    bytes: &'a [u8],
+    message: Node,
+) -> Result<Vec<Part<'a>>, AllocError>
+    requires is { message ≡ message_of bytes.now }
+    requires sound { IsSound bytes.now message }
+    ensures { IfOk result (λ found. found.items ≡ parts_of bytes.now) }
+{
+    let mut found = Vec::new(alloc);
+    let mut waiting = Vec::new(alloc);
+    waiting.push(message)?;
+    for step in 0..MOST_STEPS {
+        let Some(next) = waiting.pop() else {
+            break;
+        };
+        settle_next(alloc, bytes, &mut found, &mut waiting, next)?;
+    }
+    Ok(found)
+}
+
+/// The first that waits is opened, or is a leaf. The last of the list waits first.
+fn settle_next<'a>(
+    alloc: Global,
+    bytes: &'a [u8],
+    found: &mut Vec<Part<'a>>,
+    waiting: &mut Vec<Node>,
+    next: Node,
+) -> Result<(), AllocError>
+    requires sound { IsSound bytes.now next }
+    requires all { All (IsSound bytes.now) (reverse waiting.old.items) }
+    ensures parts { OnOk result (found.new.items ≡ (settle bytes.now found.old.items next (reverse waiting.old.items)).parts) }
+    ensures waiting { OnOk result (reverse waiting.new.items ≡ (settle bytes.now found.old.items next (reverse waiting.old.items)).waiting) }
+    ensures all { OnOk result (All (IsSound bytes.now) (reverse waiting.new.items)) }
+{
+    let Some(children) = inside_opened(alloc, bytes, found.len() + waiting.len(), &next)? else {
+        let raw = is_raw(&next.content);
+        found.push(part(bytes, next, raw))?;
+        return Ok(());
+    };
+    if !is_hidden(&next) {
+        found.push(part(bytes, next, false))?;
+    }
+    put_back(waiting, children)?;
+    Ok(())
+}
+
+/// What stands in a node, if it is to be opened beside so many other parts.
+fn inside_opened(
+    alloc: Global,
+    bytes: &[u8],
+    others: usize,
+    node: &Node,
+) -> Result<Option<Vec<Node>>, AllocError>
+    requires sound { IsSound bytes.now node.now }
+    ensures some { IfOk result (λ found. IfSome found (λ v. v.items ≡ inside bytes.now node.now)) }
+    ensures opened { IfOk result (λ found. IfSome found (λ _. opens_beside bytes.now others node.now ≡ true)) }
+    ensures all { IfOk result (λ found. IfSome found (λ v. All (IsSound bytes.now) v.items)) }
+    ensures none { IfOk result (λ found. IfNone found (opens_beside bytes.now others node.now ≡ false)) }
+{
+    if !opens(node) {
+        return Ok(None);
+    }
+    let own = own_count(bytes, node);
+    if others > MOST_PARTS - own {
+        return Ok(None);
+    }
+    let Some(nodes) = inside_within(alloc, bytes, node, MOST_PARTS - own - others)? else {
+        return Ok(None);
+    };
+    Ok(Some(nodes))
+}
+
+/// How many parts the node itself is: the multipart that is the whole body of a message is none.
+fn own_count(bytes: &[u8], node: &Node) -> usize
+    ensures few { result ≤ 1 }
+    ensures is { result ≡ length (own bytes.now node.now) }
+{
+    if is_hidden(node) { 0 } else { 1 }
+}
+
+/// The nodes wait before the others.
+fn put_back(waiting: &mut Vec<Node>, mut nodes: Vec<Node>) -> Result<(), AllocError>
+    ensures { OnOk result (reverse waiting.new.items ≡ nodes.items ++ reverse waiting.old.items) }
+{
+    while let Some(node) = nodes.pop() {
+        waiting.push(node)?;
+    }
+    Ok(())
+}
+
+/// What stands in a multipart or a message, if it is at most so many.
+fn inside_within(
+    alloc: Global,
+    bytes: &[u8],
+    node: &Node,
+    most: usize,
+) -> Result<Option<Vec<Node>>, AllocError>
+    requires depth { node.now.around ≤ 32 }
+    requires sound { IsSound bytes.now node.now }
+    requires few { most ≤ 1000 }
+    ensures all { IfOk result (λ found. IfSome found (λ v. v.items ≡ inside bytes.now node.now)) }
+    ensures few { IfOk result (λ found. IfSome found (λ v. length v.items ≤ most)) }
+    ensures sound { IfOk result (λ found. IfSome found (λ v. All (IsSound bytes.now) v.items)) }
+    ensures many { IfOk result (λ found. IfNone found (most < length (inside bytes.now node.now))) }
+{
+    if !node.content.is_multipart() {
+        if most == 0 {
+            return Ok(None);
+        }
+        let one = embedded(alloc, bytes, node)?;
+        let mut nodes = Vec::new(alloc);
+        nodes.push(one)?;
+        return Ok(Some(nodes));
+    }
+    let text = &bytes[node.body..node.to];
+    let Some(ranges) = places_within(alloc, boundary(&node.content), text, most)? else {
+        return Ok(None);
+    };
+    let nodes = children(alloc, bytes, node, &ranges)?;
+    Ok(Some(nodes))
+}
+
+/// The body of a message that stands in this one.
+fn embedded(alloc: Global, bytes: &[u8], node: &Node) -> Result<Node, AllocError>
+    requires depth { node.now.around ≤ 32 }
+    requires sound { IsSound bytes.now node.now }
+    ensures is { IfOk result (λ n. n ≡ node_at bytes.now (codes "text/plain") (Body (Some (section_of node.now.position))) (node.now.around + 1) true node.now.body node.now.to) }
+    ensures sound { IfOk result (λ n. IsSound bytes.now n) }
+{
+    let section = section(node.position);
+    let place = Range {
+        from: node.body,
+        to: node.to,
+    };
+    node_in(
+        alloc,
+        bytes,
+        "text/plain",
+        Position::Body(Some(section)),
+        node.around + 1,
+        true,
+        place,
+    )
+}
+
+/// The children of a multipart.
+#[tactic(auto, unfolding(crate::specs::Opening::children_from))]
+fn children(
+    alloc: Global,
+    bytes: &[u8],
+    node: &Node,
+    ranges: &[Range],
+) -> Result<Vec<Node>, AllocError>
+    requires depth { node.now.around ≤ 32 }
+    requires sound { IsSound bytes.now node.now }
+    requires few { length ranges.now ≤ 1000 }
+    requires within { All (IsWithin (length (slice_range bytes.now node.now.body node.now.to))) ranges.now }
+    ensures is { IfOk result (λ v. v.items ≡ children_from bytes.now node.now 1 ranges.now) }
+    ensures sound { IfOk result (λ v. All (IsSound bytes.now) v.items) }
+{
+    let mut nodes = Vec::new(alloc);
+    for (i, range) in ranges.iter().enumerate() {
+        nodes.push(child(alloc, bytes, node, (i + 1) as u16, range)?)?;
+    }
+    Ok(nodes)
+}
+
+fn child(
+    alloc: Global,
+    bytes: &[u8],
+    node: &Node,
+    number: u16,
+    range: &Range,
+) -> Result<Node, AllocError>
+    requires depth { node.now.around ≤ 32 }
+    requires sound { IsSound bytes.now node.now }
+    requires some { 1 ≤ number }
+    requires within { IsWithin (length (slice_range bytes.now node.now.body node.now.to)) range.now }
+    ensures is { IfOk result (λ n. n ≡ node_at bytes.now (default_in node.now.content.mime) (Child (prefix_of node.now.position ++ number ∷ [])) (node.now.around + 1) node.now.enclosed (node.now.body + range.now.from) (node.now.body + range.now.to)) }
+    ensures sound { IfOk result (λ n. IsSound bytes.now n) }
+{
+    let place = Range {
+        from: node.body + range.from,
+        to: node.body + range.to,
+    };
+    node_in(
+        alloc,
+        bytes,
+        default_type(&node.content),
+        Position::Child(joined(prefix(node.position), number)),
+        node.around + 1,
+        node.enclosed,
+        place,
+    )
+}
+
+/// The part at a place, as its header says it.
+#[tactic(auto, unfolding(crate::specs::Opening::node_at))]
+fn node_in(
+    alloc: Global,
+    bytes: &[u8],
+    default: &str,
+    position: Position,
+    around: usize,
+    enclosed: bool,
+    place: Range,
+) -> Result<Node, AllocError>
+    requires ordered { place.from ≤ place.to }
+    requires within { place.to ≤ length bytes.now }
+    requires short { length (prefix_of position) ≤ around }
+    requires shallow { around ≤ 33 }
+    ensures is { IfOk result (λ n. n ≡ node_at bytes.now default.now position around enclosed place.from place.to) }
+    ensures sound { IfOk result (λ n. IsSound bytes.now n) }
+{
+    let header = fields(alloc, &bytes[place.from..place.to])?;
+    let content = read_content(alloc, default, &header)?;
+    Ok(Node {
+        position,
+        around,
+        enclosed,
+        body: place.from + header.body_at(),
+        to: place.to,
+        content,
+    })
+}
+
+/// The section of a number after others.
+fn joined(prefix: Option<Section>, number: u16) -> Section
+    requires some { 1 ≤ number }
+    requires room { length (numbers_of prefix) < 40 }
+    ensures { result ≡ numbers_of prefix ++ number ∷ [] }
+{
+    match prefix {
+        Some(section) => section.child(number),
+        None => Section::first(number),
+    }
+}
+
+/// The numbers before those of the children.
+fn prefix(position: Position) -> Option<Section>
+    ensures { numbers_of result ≡ prefix_of position }
+{
+    match position {
+        Position::Body(message) => message,
+        Position::Child(section) => Some(section),
+    }
+}
+
+fn section(position: Position) -> Section
+    requires { length (prefix_of position) < 40 }
+    ensures { result ≡ section_of position }
+{
+    match position {
+        Position::Body(message) => joined(message, 1),
+        Position::Child(section) => section,
+    }
+}
+
+fn part<'a>(bytes: &'a [u8], node: Node, raw: bool) -> Part<'a>
+    requires { IsSound bytes.now node }
+    ensures { result ≡ part_of bytes.now node raw }
+{
+    let Node {
+        position,
+        around: _,
+        enclosed,
+        body,
+        to,
+        content,
+    } = node;
+    Part::new(
+        section(position),
+        content,
+        raw,
+        enclosed,
+        body,
+        &bytes[body..to],
+    )
+}
+
+/// Whether a node may be opened, whatever else the tree has.
+fn opens(node: &Node) -> bool
+    ensures deep { IsTrue result → node.now.around ≤ 32 }
+    ensures is { result ≡ can_open node.now }
+{
+    node.around <= MOST_AROUND
+        && (node.content.is_message()
+            || (node.content.is_multipart() && node.content.boundary.is_some()))
+}
+
+/// Whether a node is the multipart that is the whole body of a message.
+fn is_hidden(node: &Node) -> bool
+    ensures { result ≡ (is_body node.now.position && is_multipart node.now.content.mime) }
+{
+    is_whole(node.position) && node.content.is_multipart()
+}
+
+fn is_whole(position: Position) -> bool
+    ensures { result ≡ is_body position }
+{
+    match position {
+        Position::Body(_) => true,
+        Position::Child(_) => false,
+    }
+}
+
+/// Whether a leaf isn't opened, or its coding is unknown.
+fn is_raw(content: &Content) -> bool
+    ensures { result ≡ is_raw content.now }
+{
+    content.is_multipart() || content.is_message() || content.coding.is_none()
+}
+
+fn default_type(content: &Content) -> &'static str
+    ensures { result.now ≡ default_in content.now.mime }
+{
+    if content.mime.as_str() == "multipart/digest" {
+        "message/rfc822"
+    } else {
+        "text/plain"
+    }
+}
+
+fn boundary(content: &Content) -> &[u8]
+    ensures { result.now ≡ unwrap_or content.now.boundary [] }
+{
+    match &content.boundary {
+        Some(boundary) => boundary.as_slice(),
+        None => &[],
+    }
+}
