@@ -6,3 +6,5 @@ pub mod PieceLemmas
 pub mod OpeningLemmas
 pub mod BestLemmas
 pub mod ContentLemmas
+pub mod SectionLaws
+pub mod TreeLaws

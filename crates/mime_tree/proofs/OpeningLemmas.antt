@@ -165,7 +165,7 @@ and_right : (a b : Bool) → (a && b) ≡ true → b ≡ true
 and_right true b h = h
 and_right false b h = absurd cc
 
-opens_size : (bytes : List ℕ) (others : ℕ) (n : Node) → opens_beside bytes others n ≡ true → others + length (own bytes n) + length (inside bytes n) ≤ 1000
+pub opens_size : (bytes : List ℕ) (others : ℕ) (n : Node) → opens_beside bytes others n ≡ true → others + length (own bytes n) + length (inside bytes n) ≤ 1000
 unfolding opens_beside
 opens_size bytes others n h = leb-true (others + length (own bytes n) + length (inside bytes n)) 1000 (and_right (can_open n) _ h)
 

@@ -4,3 +4,4 @@ pub mod Content
 pub mod Tree
 pub mod Opening
 pub mod Best
+pub mod Laws

@@ -7,6 +7,7 @@
 pub mod body;
 pub mod choice;
 pub mod content;
+pub mod laws;
 pub mod lines;
 pub mod node;
 pub mod opening;

@@ -4,7 +4,7 @@ ghost use Rattle.mail_io.specs.Section.{numbers_of};
 ghost use Rattle.mime_tree.specs.Body.{IsWithin};
 ghost use Rattle.mime_tree.specs.Content.{is_multipart, is_message, is_alternative, default_in};
 ghost use Rattle.mime_tree.specs.Tree.{PartValue};
-ghost use Rattle.mime_tree.specs.Opening.{node_at, inside, can_open, section_of, prefix_of, is_body, part_of, own, parts_of, message_of, settle, opens_beside, children_from, is_raw, IsSound};
+ghost use Rattle.mime_tree.specs.Opening.{node_at, inside, can_open, section_of, prefix_of, is_body, part_of, own, parts_of, message_of, settle, opens_beside, children_from, is_raw, IsSound, IsPlaced};
 ghost use Rattle.mime_tree.specs.declared.node.Position.TheVariants.{Body, Child};
 
 use crate::body::{Range, places_within};
@@ -53,7 +53,8 @@ pub fn parts_in<'a>(
 ) -> Result<Vec<Part<'a>>, AllocError>
     requires is { message ≡ message_of bytes.now }
     requires sound { IsSound bytes.now message }
-    ensures { IfOk result (λ found. found.items ≡ parts_of bytes.now) }
+    ensures is { IfOk result (λ found. found.items ≡ parts_of bytes.now) }
+    ensures placed { IfOk result (λ found. All (IsPlaced bytes.now) found.items) }
 {
     let mut found = Vec::new(alloc);
     let mut waiting = Vec::new(alloc);
@@ -77,9 +78,11 @@ fn settle_next<'a>(
 ) -> Result<(), AllocError>
     requires sound { IsSound bytes.now next }
     requires all { All (IsSound bytes.now) (reverse waiting.old.items) }
+    requires placed { All (IsPlaced bytes.now) found.old.items }
     ensures parts { OnOk result (found.new.items ≡ (settle bytes.now found.old.items next (reverse waiting.old.items)).parts) }
     ensures waiting { OnOk result (reverse waiting.new.items ≡ (settle bytes.now found.old.items next (reverse waiting.old.items)).waiting) }
     ensures all { OnOk result (All (IsSound bytes.now) (reverse waiting.new.items)) }
+    ensures placed { OnOk result (All (IsPlaced bytes.now) found.new.items) }
 {
     let Some(children) = inside_opened(alloc, bytes, found.len() + waiting.len(), &next)? else {
         let raw = is_raw(&next.content);
@@ -307,7 +310,8 @@ fn section(position: Position) -> Section
 
 fn part<'a>(bytes: &'a [u8], node: Node, raw: bool) -> Part<'a>
     requires { IsSound bytes.now node }
-    ensures { result ≡ part_of bytes.now node raw }
+    ensures is { result ≡ part_of bytes.now node raw }
+    ensures placed { IsPlaced bytes.now result }
 {
     let Node {
         position,

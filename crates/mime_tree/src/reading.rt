@@ -1,15 +1,19 @@
 //! Reads the tree of a message.
-ghost use Rattle.std.specs.Prelude.{◌≡◌, IfOk};
-ghost use Rattle.mime_tree.specs.Opening.{tree_of};
+ghost use Rattle.std.specs.Prelude.{◌≡◌, ◌≤◌, length, All, IfOk};
+ghost use Rattle.mime_tree.specs.Opening.{tree_of, IsPlaced};
+ghost use Rattle.mime_tree.specs.Laws.{HasDistinctSections};
 
 use crate::opening::{message, parts_in};
 use crate::parts::Tree;
 use std::alloc::{AllocError, Global};
 
-/// The tree of a message. Every byte string has one, so only memory can fail.
+/// The tree of a message. Every byte string has one, so only memory can fail. Each part is a place of the message.
 #[tactic(auto, unfolding(crate::specs::Opening::tree_of))]
 pub fn tree(alloc: Global, bytes: &[u8]) -> Result<Tree<'_>, AllocError>
-    ensures { IfOk result (λ t. t ≡ tree_of bytes.now) }
+    ensures is { IfOk result (λ t. t ≡ tree_of bytes.now) }
+    ensures few { IfOk result (λ t. length t.parts ≤ 1000) }
+    ensures distinct { IfOk result (λ t. HasDistinctSections t.parts) }
+    ensures placed { IfOk result (λ t. All (IsPlaced bytes.now) t.parts) }
 {
     let message = message(alloc, bytes)?;
     let alternative = message.content.is_alternative();
