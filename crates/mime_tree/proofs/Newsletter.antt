@@ -6,7 +6,7 @@ use Rattle.mime_tree.specs.Body.{places, closes, delimits}
 use Rattle.mime_tree.specs.Content.{content_of}
 use Rattle.mime_tree.specs.Opening.{node_at, children_from, inside, opens_beside, settle, opened, message_of, parts_of}
 use Rattle.mime_tree.specs.Tree.{PartValue}
-use Rattle.std.specs.Str.Lossy.{utf8_lossy}
+use Rattle.header_words.specs.Value.{words_decoded}
 
 pub record Seen : Type 0 where
   pub section : List ℕ

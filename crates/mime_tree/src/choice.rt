@@ -147,7 +147,8 @@ fn is_html(part: &Part<'_>) -> bool
     part.mime() == "text/html"
 }
 
-fn shown_as(part: &Part<'_>) -> Shown
+/// How a text or a page of a read charset is shown.
+pub fn shown_as(part: &Part<'_>) -> Shown
     ensures { result ≡ shown_as part.now }
 {
     let section = *part.section();

@@ -15,7 +15,7 @@ pub mod parts;
 pub mod pieces;
 pub mod reading;
 
-pub use choice::{Shown, best, part};
+pub use choice::{Shown, best, part, shown_as};
 pub use mail_io::Section;
 pub use parts::{Part, Tree};
 pub use reading::tree;

@@ -1,3 +1,2 @@
 pub mod LineFeeds
 pub mod Safe
-pub mod Words

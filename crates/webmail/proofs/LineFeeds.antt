@@ -4,13 +4,14 @@ use Rattle.memchr.specs.Find.{IsFirstByte, is_byte}
 use Rattle.std.specs.Option.{is_some, MatchOption, IfSome, OnSome, IfNone}
 use Rattle.std.specs.List.{slice_split, onto_first, position_or_len, before_first, after_first}
 use Rattle.std.specs.Str.{IsUtf8}
+use Rattle.std.specs.Str.Lossy.{utf8_lossy}
 use Rattle.std.proofs.lemmas.Str.{utf8_lossy-IsUtf8}
 use Rattle.std.proofs.lemmas.Bool.{cases_lt, cases_Bool, eqb-true}
 use Rattle.std.proofs.lemmas.List.Sums.{passes_at_first}
 use Rattle.std.proofs.lemmas.List.{append-nil}
 use Rattle.std.proofs.lemmas.List.Splits.{slice_split_first, slice_split-cons_yes, slice_split-cons_no}
 use Rattle.header_words.proofs.FirstLine.{slice_split_some, slice_split_whole}
-use Rattle.webmail.specs.Text.{is_return, without_line_feed, on_lines, line_feeds, text_of}
+use Rattle.webmail.specs.Text.{is_return, without_line_feed, on_lines, line_feeds}
 
 -- a text without CR
 pub line_feeds-clean : (text : List ℕ) → length text ≤ position_or_len is_return text → line_feeds text ≡ text
@@ -84,10 +85,9 @@ one_further text lines longer rest line after before found l a e =
 pub last_line : (text lines rest : List ℕ) → lines ++ line_feeds rest ≡ line_feeds text → position_or_len is_return rest ≡ length rest → lines ++ rest ≡ line_feeds text
 last_line text lines rest before none = ap (λ t. lines ++ t) (sym (line_feeds-clean rest (omega arith))) ∙ before
 
--- valid text is read as it stands
-pub text_of-valid : (body text : List ℕ) → text ≡ body → IsUtf8 body → line_feeds text ≡ text_of body
-unfolding text_of
-text_of-valid body text e valid = ap line_feeds (e ∙ sym (utf8_lossy-IsUtf8 body valid))
+-- valid text is read as it is
+pub lossy-valid : (bytes text : List ℕ) → text ≡ bytes → IsUtf8 bytes → text ≡ utf8_lossy bytes
+lossy-valid bytes text e valid = e ∙ sym (utf8_lossy-IsUtf8 bytes valid)
 
 -- ---- what a match says of each of its parts
 

@@ -1,3 +1,5 @@
 pub mod Text
+pub mod Frame
+pub mod Mail
 pub mod ShowPage
 pub mod Run

@@ -1,7 +1,6 @@
 -- The text of a plain message.
 use Rattle.std.specs.Prelude.{ℕ, Bool, ◌==◌, if◌then◌else◌, List, [], ◌∷◌, ◌++◌}
 use Rattle.std.specs.List.{slice_split, flat_map}
-use Rattle.std.specs.Str.Lossy.{utf8_lossy}
 
 abbrev pub is_return : ℕ → Bool
 is_return b = b == 13
@@ -18,7 +17,3 @@ on_lines (first ∷ more) = first ++ flat_map (λ piece. 10 ∷ without_line_fee
 -- a text in UTF-8 with CR LF and lone CR as LF
 unfoldable pub line_feeds : List ℕ → List ℕ
 line_feeds text = on_lines (slice_split is_return text)
-
--- the text of a body
-unfoldable pub text_of : List ℕ → List ℕ
-text_of body = line_feeds (utf8_lossy body)

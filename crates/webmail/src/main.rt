@@ -4,7 +4,12 @@
 //! sources and sinks, so that their contracts can say what was read and written; `main` makes the real ones.
 #![tactic(auto)]
 
+pub mod asking;
+pub mod elements;
+pub mod frame;
+pub mod mail;
 pub mod page;
+pub mod parts;
 pub mod show;
 pub mod status;
 pub mod text;

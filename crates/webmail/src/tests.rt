@@ -1,13 +1,69 @@
+use crate::mail::choose;
 use crate::page::show_page;
 use crate::show::{LIMIT, run_show};
 use crate::status::{
     DONE, NO_SUCH_PART, NOT_BUILT, OUT_OF_MEMORY, READ_FAULT, Status, TOO_LONG, WRITE_FAULT,
     WRONG_WORDS, status_line,
 };
-use header_words::fields;
 use mail_io::{Bytes, Memory, MemorySink, MemorySource};
+use mime_tree::tree;
 use std::alloc::Global;
 use std::test::Fail;
+
+/// A message of an attached document and an attached text.
+const ATTACHMENTS: &[u8] = b"Content-Type: multipart/mixed; boundary=b\r\n\r\n\
+--b\r\nContent-Type: application/pdf; name=\"<b>.pdf\"\r\nContent-Transfer-Encoding: base64\r\n\r\nAAAA\r\n\
+--b\r\nContent-Disposition: attachment; filename=\"=?utf-8?Q?=C3=A9.txt?=\"\r\n\r\nx\r\n--b--\r\n";
+
+/// A text, and a message in the message.
+const FORWARDED: &[u8] = b"Content-Type: multipart/mixed; boundary=b\r\n\r\n--b\r\n\r\none\r\n\
+--b\r\nContent-Type: message/rfc822\r\n\r\nSubject: in\r\n\r\ninner\r\n--b--\r\n";
+
+/// A text of a charset that isn't read, and a picture.
+const UNREAD: &[u8] = b"Content-Type: multipart/mixed; boundary=b\r\n\r\n\
+--b\r\nContent-Type: text/plain; charset=\"<i>\"\r\n\r\nx\r\n\
+--b\r\nContent-Type: image/png\r\n\r\ny\r\n--b--\r\n";
+
+const FLOWED: &[u8] = b"Content-Type: text/plain; format=flowed\r\n\r\na \r\nb\r\n";
+
+/// A newsletter: a plain text beside a page with two pictures.
+const NEWSLETTER: &[u8] = b"From: \"College News\" <news@c.example>\r\n\
+To: ann@c.example\r\n\
+Subject: =?utf-8?Q?Caf=C3=A9_week?=\r\n\
+Date: Mon, 5 Jan 2026 09:00:00 +0000\r\n\
+MIME-Version: 1.0\r\n\
+Content-Type: multipart/alternative; boundary=\"a1\"\r\n\
+\r\n\
+--a1\r\n\
+Content-Type: text/plain; charset=utf-8\r\n\
+\r\n\
+Cafe week\r\n\
+--a1\r\n\
+Content-Type: multipart/related; boundary=\"r1\"\r\n\
+\r\n\
+--r1\r\n\
+Content-Type: text/html; charset=utf-8\r\n\
+Content-Transfer-Encoding: quoted-printable\r\n\
+\r\n\
+<html><head><style>p{color:red}</style></head><body bgcolor=3D\"#fff\"><table=\r\n\
+ width=3D\"600\"><tr><td><img src=3D\"cid:top@n\" width=3D600 height=3D80><p cl=\r\n\
+ass=3D\"x\" style=3D\"color:#333;margin:0 0 10px\">Caf=C3=A9</p><img src=3D\"htt=\r\n\
+p://t.example/o\"><img src=3D\"cid:foot@n\"></td></tr></table></body></html>\r\n\
+--r1\r\n\
+Content-Type: image/png; name=\"top.png\"\r\n\
+Content-ID: <top@n>\r\n\
+Content-Transfer-Encoding: base64\r\n\
+\r\n\
+iVBORw==\r\n\
+--r1\r\n\
+Content-Type: image/gif\r\n\
+Content-ID: <foot@n>\r\n\
+Content-Transfer-Encoding: base64\r\n\
+\r\n\
+R0lGODlh\r\n\
+--r1--\r\n\
+--a1--\r\n\
+";
 
 /// A run: how it ended, and what it wrote.
 #[derive(Drop)]
@@ -48,13 +104,13 @@ fn lines_of(alloc: Global, count: usize) -> Result<Vec<u8>, Memory> {
     Ok(message)
 }
 
-/// The page of a message with this title, these rows, this text and this size.
+/// The page of a message with this title, these rows, what is shown, and the items of its list of parts.
 fn framed(
     alloc: Global,
     title: &str,
     rows: &str,
-    text: &str,
-    size: usize,
+    mail: &str,
+    items: &str,
 ) -> Result<String, Memory> {
     let mut page = String::from_str(
         alloc,
@@ -65,14 +121,30 @@ fn framed(
     page.push_str(title)?;
     page.push_str("</h1>\n<table class=\"head\">")?;
     page.push_str(rows)?;
-    page.push_str("</table>\n<div class=\"mail\"><pre>\n")?;
-    page.push_str(text)?;
-    page.push_str(
-        "</pre></div>\n<ul class=\"parts\"><li><a href=\"/part/0/0/1?f=\">1</a> text/plain ",
-    )?;
-    write!(page, "{size}")?;
-    page.push_str("</li></ul>\n</body></html>\n")?;
+    page.push_str("</table>\n<div class=\"mail\">")?;
+    page.push_str(mail)?;
+    page.push_str("</div>\n<ul class=\"parts\">")?;
+    page.push_str(items)?;
+    page.push_str("</ul>\n</body></html>\n")?;
     Ok(page)
+}
+
+/// The page of a plain message.
+fn plain_page(
+    alloc: Global,
+    title: &str,
+    rows: &str,
+    text: &str,
+    size: usize,
+) -> Result<String, Memory> {
+    let mut mail = String::new(alloc);
+    write!(mail, "<pre>\n{text}</pre>")?;
+    let mut items = String::new(alloc);
+    write!(
+        items,
+        "<li><a href=\"/part/0/0/1?f=\">1</a> text/plain {size}</li>"
+    )?;
+    framed(alloc, title, rows, &mail, &items)
 }
 
 #[test]
@@ -109,7 +181,7 @@ fn shows_plain_messages(rt: HostRuntime) -> Result<(), Fail> {
             0,
         ),
         (
-            b"Content: text/plain\n\nx".as_slice(),
+            b"content-TYPE: text/plain\n\nx".as_slice(),
             "(no subject)",
             "",
             "x",
@@ -130,7 +202,7 @@ fn shows_plain_messages(rt: HostRuntime) -> Result<(), Fail> {
             0,
         ),
     ] {
-        let want = framed(alloc, title, rows, text, size)?;
+        let want = plain_page(alloc, title, rows, text, size)?;
         let run = run_on(
             alloc,
             &["show"],
@@ -146,71 +218,147 @@ fn shows_plain_messages(rt: HostRuntime) -> Result<(), Fail> {
 }
 
 #[test]
-fn answers_each_refusal(rt: HostRuntime) -> Result<(), Fail> {
+fn shows_parts(rt: HostRuntime) -> Result<(), Fail> {
+    let alloc = rt.alloc();
+    for (words, message, title, mail, items) in [
+        (
+            ["show"].as_slice(),
+            b"Content-Type: text/plain; charset=iso-8859-1\r\nContent-Transfer-Encoding: quoted-printable\r\n\r\ncaf=e9 =3d 1=\r\n0".as_slice(),
+            "(no subject)",
+            "<pre>\ncaf\u{E9} = 10</pre>",
+            "<li><a href=\"/part/0/0/1?f=\">1</a> text/plain 16</li>",
+        ),
+        (
+            ["show"].as_slice(),
+            b"Content-Type: text/plain; charset=koi8-r\r\n\r\nx".as_slice(),
+            "(no subject)",
+            "<p>Charset koi8-r is not read here; part 1 is offered below.</p>",
+            "<li><a href=\"/part/0/0/1?f=\">1</a> text/plain 1</li>",
+        ),
+        (
+            ["show", "--part", "1"].as_slice(),
+            b"Subject: t\r\n\r\nx".as_slice(),
+            "t",
+            "<pre>\nx</pre>",
+            "<li><a href=\"/part/0/0/1?f=\">1</a> text/plain 1</li>",
+        ),
+        (
+            ["show", "--part", "1"].as_slice(),
+            NEWSLETTER,
+            "Caf\u{E9} week",
+            "<pre>\nCafe week</pre>",
+            "<li><a href=\"/part/0/0/1?f=\">1</a> text/plain 9</li><li><a href=\"/part/0/0/2.1?f=\">2.1</a> text/html 307</li><li><a href=\"/part/0/0/2.2?f=\">2.2</a> image/png top.png 8</li><li><a href=\"/part/0/0/2.3?f=\">2.3</a> image/gif 8</li>",
+        ),
+        (
+            ["show"].as_slice(),
+            ATTACHMENTS,
+            "(no subject)",
+            "<p>No text to show.</p>",
+            "<li><a href=\"/part/0/0/1?f=\">1</a> application/pdf &lt;b&gt;.pdf 4</li><li><a href=\"/part/0/0/2?f=\">2</a> text/plain \u{E9}.txt 1</li>",
+        ),
+        (
+            ["show", "--part", "2"].as_slice(),
+            ATTACHMENTS,
+            "(no subject)",
+            "<pre>\nx</pre>",
+            "<li><a href=\"/part/0/0/1?f=\">1</a> application/pdf &lt;b&gt;.pdf 4</li><li><a href=\"/part/0/0/2?f=\">2</a> text/plain \u{E9}.txt 1</li>",
+        ),
+        (
+            ["show", "--part", "2.1"].as_slice(),
+            FORWARDED,
+            "(no subject)",
+            "<pre>\ninner</pre>",
+            "<li><a href=\"/part/0/0/1?f=\">1</a> text/plain 3</li><li><a href=\"/part/0/0/2.1?f=\">2.1</a> text/plain 5</li>",
+        ),
+        (
+            ["show"].as_slice(),
+            UNREAD,
+            "(no subject)",
+            "<p>Charset &lt;i&gt; is not read here; part 1 is offered below.</p>",
+            "<li><a href=\"/part/0/0/1?f=\">1</a> text/plain 1</li><li><a href=\"/part/0/0/2?f=\">2</a> image/png 1</li>",
+        ),
+    ] {
+        let want = framed(alloc, title, "", mail, items)?;
+        let message = Vec::from_slice(alloc, message)?;
+        let run = run_on(alloc, words, message, &[], &[], 4096)?;
+        assert_eq!(rt; run.status, DONE, "{mail}");
+        assert!(rt;
+            run.page.ends_with(&want[want.find("</h1>").unwrap_or(0)..]),
+            "{mail}"
+        );
+    }
+    Ok(())
+}
+
+#[test]
+fn answers_faults(rt: HostRuntime) -> Result<(), Fail> {
     let alloc = rt.alloc();
     let plain = b"Subject: t\r\n\r\nx".as_slice();
-    for (words, message, reads, writes, room, status, written) in [
-        ([].as_slice(), plain, [0], [0], 4096, WRONG_WORDS, 0),
-        (["shown"].as_slice(), plain, [0], [0], 4096, WRONG_WORDS, 0),
-        (
-            ["show", "--part"].as_slice(),
-            plain,
-            [0],
-            [0],
-            4096,
-            WRONG_WORDS,
-            0,
-        ),
-        (
-            ["show", "show"].as_slice(),
-            plain,
-            [1],
-            [0],
-            4096,
-            WRONG_WORDS,
-            0,
-        ),
-        (["show"].as_slice(), plain, [1], [0], 4096, READ_FAULT, 0),
-        (["show"].as_slice(), plain, [2], [0], 4096, READ_FAULT, 0),
-        (
-            ["show"].as_slice(),
-            b"content-TYPE: text/plain\n\nx".as_slice(),
-            [0],
-            [1],
-            4096,
-            NOT_BUILT,
-            0,
-        ),
-        (
-            ["show"].as_slice(),
-            b"Content-: x\n\nx".as_slice(),
-            [2],
-            [0],
-            4096,
-            READ_FAULT,
-            0,
-        ),
-        (["show"].as_slice(), plain, [0], [1], 4096, WRITE_FAULT, 0),
-        (["show"].as_slice(), plain, [0], [0], 10, WRITE_FAULT, 0),
+    for (reads, writes, room, status) in [
+        ([1], [0], 4096, READ_FAULT),
+        ([2], [0], 4096, READ_FAULT),
+        ([2], [1], 4096, READ_FAULT),
+        ([0], [1], 4096, WRITE_FAULT),
+        ([0], [0], 10, WRITE_FAULT),
     ] {
+        let message = Vec::from_slice(alloc, plain)?;
+        let run = run_on(alloc, &["show"], message, &reads, &writes, room)?;
+        assert_eq!(rt; run.status, status, "reads {reads:?}, writes {writes:?}");
+        assert_eq!(rt; run.page.len(), 0, "reads {reads:?}, writes {writes:?}");
+    }
+    Ok(())
+}
+
+#[test]
+fn answers_wrong_words(rt: HostRuntime) -> Result<(), Fail> {
+    let alloc = rt.alloc();
+    for words in [
+        [].as_slice(),
+        ["shown"].as_slice(),
+        ["show", "--part"].as_slice(),
+        ["show", "show"].as_slice(),
+        ["--part", "1", "show"].as_slice(),
+        ["show", "--parts", "1"].as_slice(),
+        ["show", "--part", "0"].as_slice(),
+        ["show", "--part", "1.02"].as_slice(),
+        ["show", "--part", "1", "1"].as_slice(),
+    ] {
+        // nothing is read, so a source that fails isn't told
+        let run = run_on(alloc, words, Vec::new(alloc), &[1], &[], 4096)?;
+        assert_eq!(rt; run.status, WRONG_WORDS, "{words:?}");
+        assert_eq!(rt; run.page.len(), 0, "{words:?}");
+    }
+    Ok(())
+}
+
+#[test]
+fn answers_parts_that_are_not_shown(rt: HostRuntime) -> Result<(), Fail> {
+    let alloc = rt.alloc();
+    for (section, message, status) in [
+        ("9", b"Subject: t\r\n\r\nx".as_slice(), NO_SUCH_PART),
+        ("2", NEWSLETTER, NO_SUCH_PART),
+        ("2.1", NEWSLETTER, NOT_BUILT),
+        ("2.2", NEWSLETTER, NO_SUCH_PART),
+        ("2", FORWARDED, NO_SUCH_PART),
+        ("1", ATTACHMENTS, NO_SUCH_PART),
+        ("1", FLOWED, NOT_BUILT),
+    ] {
+        let message = Vec::from_slice(alloc, message)?;
         let run = run_on(
             alloc,
-            words,
-            Vec::from_slice(alloc, message)?,
-            &reads,
-            &writes,
-            room,
+            &["show", "--part", section],
+            message,
+            &[],
+            &[1],
+            4096,
         )?;
-        assert_eq!(rt;
-            run.status,
-            status,
-            "{words:?}, reads {reads:?}, writes {writes:?}"
-        );
-        assert_eq!(rt;
-            run.page.len(),
-            written,
-            "{words:?}, reads {reads:?}, writes {writes:?}"
-        );
+        assert_eq!(rt; run.status, status, "{section}");
+        assert_eq!(rt; run.page.len(), 0, "{section}");
+    }
+    for message in [NEWSLETTER, FLOWED] {
+        let message = Vec::from_slice(alloc, message)?;
+        let run = run_on(alloc, &["show"], message, &[], &[1], 4096)?;
+        assert_eq!(rt; run.status, NOT_BUILT);
     }
     Ok(())
 }
@@ -247,7 +395,9 @@ fn says_what_is_wrong(rt: HostRuntime) -> Result<(), Fail> {
     }
     let alloc = rt.alloc();
     let message = b"\nx".as_slice();
-    let page = show_page(alloc, message, &fields(alloc, message)?)?;
+    let parts = tree(alloc, message)?;
+    let shown = choose(&parts, &None).ok_or("nothing chosen")?;
+    let page = show_page(alloc, message, &None, &parts, &shown)?;
     assert!(rt; page.ends_with(b"</html>\n"));
     Ok(())
 }

@@ -1,29 +1,48 @@
-//! The text of a plain message.
+//! Bytes as a text of a page.
 ghost use Rattle.std.specs.Prelude.{◌≡◌, ◌<◌, ◌≤◌, false, length, IfOk, OnOk, IfSome, OnSome, IfNone, string_bytes};
 ghost use Rattle.std.specs.List.{before_first, after_first, position_or_len};
-ghost use Rattle.webmail.specs.Text.{is_return, line_feeds, text_of, without_line_feed};
-ghost use Rattle.webmail.specs.ShowPage.{with_tokens, text as text_tokens};
+ghost use Rattle.webmail.specs.Text.{is_return, line_feeds, without_line_feed};
+ghost use Rattle.std.specs.Str.Lossy.{utf8_lossy};
+ghost use Rattle.transfer_codings.specs.Charsets.{text_in};
+ghost use Rattle.webmail.specs.Frame.{with_tokens, text as text_tokens};
 
 use memchr::memchr;
 use page_writer::{Memory, PageOut};
 use std::alloc::Global;
+use transfer_codings::{Charset, text_of};
 
-/// Writes a body as a text: its bytes read as UTF-8 lossily, CR LF and lone CR as LF.
-pub fn write_body(alloc: Global, out: &mut PageOut, body: &[u8]) -> Result<(), Memory>
-    ensures { OnOk result (out.new ≡ with_tokens out.old (text_tokens (text_of body.now)) out.old.opened) }
+/// Writes bytes as a text: read by their charset, with CR LF and lone CR as LF.
+pub fn write_body(
+    alloc: Global,
+    out: &mut PageOut,
+    charset: Charset,
+    bytes: &[u8],
+) -> Result<(), Memory>
+    ensures { OnOk result (out.new ≡ with_tokens out.old (text_tokens (line_feeds (text_in charset bytes.now))) out.old.opened) }
 {
-    // valid text, as nearly all mail has it, needs no copy
-    match simdutf8::compat::from_utf8(body) {
-        Ok(text) => write_lines(alloc, out, text),
-        Err(_) => write_lossily(alloc, out, body),
+    match charset {
+        Charset::Utf8 => write_utf8(alloc, out, bytes),
+        Charset::Ascii | Charset::Latin1 => {
+            let text = text_of(alloc, charset, bytes)?;
+            write_lines(alloc, out, &text)
+        }
     }
 }
 
-#[tactic(auto, unfolding(crate::specs::Text::text_of))]
-fn write_lossily(alloc: Global, out: &mut PageOut, body: &[u8]) -> Result<(), Memory>
-    ensures { OnOk result (out.new ≡ with_tokens out.old (text_tokens (text_of body.now)) out.old.opened) }
+/// Writes bytes read as UTF-8 lossily. Valid text, as nearly all mail has it, needs no copy.
+fn write_utf8(alloc: Global, out: &mut PageOut, bytes: &[u8]) -> Result<(), Memory>
+    ensures { OnOk result (out.new ≡ with_tokens out.old (text_tokens (line_feeds (utf8_lossy bytes.now))) out.old.opened) }
 {
-    let text = String::from_utf8_lossy(alloc, body)?;
+    match simdutf8::compat::from_utf8(bytes) {
+        Ok(text) => write_lines(alloc, out, text),
+        Err(_) => write_lossily(alloc, out, bytes),
+    }
+}
+
+fn write_lossily(alloc: Global, out: &mut PageOut, bytes: &[u8]) -> Result<(), Memory>
+    ensures { OnOk result (out.new ≡ with_tokens out.old (text_tokens (line_feeds (utf8_lossy bytes.now))) out.old.opened) }
+{
+    let text = String::from_utf8_lossy(alloc, bytes)?;
     write_lines(alloc, out, &text)
 }
 

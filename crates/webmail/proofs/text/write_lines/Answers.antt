@@ -1,6 +1,6 @@
 use Rattle.std.proofs.Common.{◌≡◌, sym, subst, List, ℕ}
 use Rattle.webmail.proofs.LineFeeds.{line_feeds-clean}
-use Rattle.webmail.specs.ShowPage.{with_tokens, text}
+use Rattle.webmail.specs.Frame.{with_tokens, text}
 use Rattle.std.specs.Prelude.{OnOk}
 use Rattle.webmail.proofs.text.write_lines.Goals as goal
 
