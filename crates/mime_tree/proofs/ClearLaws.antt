@@ -2,7 +2,7 @@
 use Rattle.std.proofs.Common.{◌≡◌, ℕ, zero, suc, ◌+◌, ◌-◌, ◌<◌, ◌≤◌, inl, inr, Bool, true, false, ◌||◌, not, cond, List, [], ◌∷◌, ◌++◌, length, get_or, take, drop, refl, sym, ap, ◌∙◌, subst, arith, length-drop}
 use Rattle.std.proofs.lemmas.Bool.{and_parts, or_right, cases_Bool}
 use Rattle.std.proofs.lemmas.List.{drop-drop, drop-take, take-take, length-take-le}
-use Rattle.std.proofs.lemmas.List.Elements.{All-nil}
+use Rattle.std.proofs.lemmas.List.Elements.{All-nil, All-contains}
 use Rattle.std.proofs.lemmas.List.Sums.{AllPass-from_list_all, list_all-from_AllPass}
 use Rattle.std.specs.Prelude.{All, Some, codes, unwrap_or, slice_range}
 use Rattle.std.specs.List.{list_all}
@@ -17,7 +17,7 @@ use Rattle.mime_tree.specs.declared.node.Node.{Node}
 use Rattle.mime_tree.specs.Body.{delimits, places}
 use Rattle.mime_tree.specs.Content.{is_multipart, default_in}
 use Rattle.mime_tree.specs.Opening.{node_at, children_from, inside, prefix_of, section_of}
-use Rattle.mime_tree.specs.Laws.{IsClear, StaysClear}
+use Rattle.mime_tree.specs.Laws.{IsClear, HasPlace, StandsIn, direct, deeper, OuterLinesEndParts}
 use Rattle.mime_tree.proofs.OpeningLemmas.{inside_message, inside_multipart}
 use Rattle.mime_tree.proofs.LineLaws.{Each, EachPasses, places_pass}
 
@@ -104,6 +104,10 @@ or_not : (b : Bool) → (b || not b) ≡ true
 or_not true = refl
 or_not false = refl
 
+all_true : (ls : List (List ℕ)) → list_all (λ l. true) ls ≡ true
+all_true [] = refl
+all_true (l ∷ ls) = all_true ls
+
 all_or_not : (boundary : List ℕ) (ls : List (List ℕ)) → list_all (λ l. delimits boundary l || clear_of boundary l) ls ≡ true
 all_or_not boundary [] = refl
 all_or_not boundary (l ∷ ls) = rw (or_not (delimits boundary l)) (all_or_not boundary ls)
@@ -152,8 +156,64 @@ own_passes bytes n le fits parts =
     subst (λ (ns : List Node). EachNode (clear_of boundary) bytes ns) (sym (inside_multipart bytes n (sym parts)))
     (children_pass (clear_of boundary) bytes n 1 (places boundary text) le fits (places_pass boundary (clear_of boundary) text (all_or_not boundary (lines text))))
 
-pub stays_clear : (bytes : List ℕ) → StaysClear bytes
-stays_clear bytes = λ n le fits k d lt. record {
-  outer = λ boundary h. clear_from bytes boundary (get_or (inside bytes n) k d) (inside_passes (clear_of boundary) bytes n le fits (clear_to bytes boundary n h) k d lt);
-  own = λ parts. clear_from bytes (unwrap_or n.content.boundary []) (get_or (inside bytes n) k d) (own_passes bytes n le fits parts k d lt);
-}
+-- what stands in a node has a place where the node has one
+node_place : (bytes default : List ℕ) (position : Position) (around : ℕ) (enclosed : Bool) (from to : ℕ) → from ≤ to → to ≤ length bytes → HasPlace bytes (node_at bytes default position around enclosed from to)
+unfolding node_at header_of
+node_place bytes default position around enclosed from to le fits =
+    let xs = slice_range bytes from to in
+    let size : length xs ≡ to - from = length-take-le (to - from) (drop from bytes) (omega (arith, length-drop from bytes)) in
+    let b = in_body (length xs) (λ l. true) xs (omega arith) (all_true (lines xs)) in
+    record { ordered = omega (arith, size, b.within); within = fits }
+
+places_cons : (bytes : List ℕ) (n : Node) (ns : List Node) → HasPlace bytes n → All (HasPlace bytes) ns → (k : ℕ) (d : Node) → k < length (n ∷ ns) → HasPlace bytes (get_or (n ∷ ns) k d)
+places_cons bytes n ns h g zero d lt = h
+places_cons bytes n ns h g (suc k) d lt = g k d (omega arith)
+
+children_place : (bytes : List ℕ) (n : Node) (k : ℕ) (rs : List Range) → n.body ≤ n.to → n.to ≤ length bytes → EachPasses (λ l. true) (slice_range bytes n.body n.to) rs → All (HasPlace bytes) (children_from bytes n k rs)
+unfolding children_from
+children_place bytes n k [] le fits h = All-nil (HasPlace bytes)
+children_place bytes n k (r ∷ rs) le fits h =
+    let size : length (slice_range bytes n.body n.to) ≡ n.to - n.body = length-take-le (n.to - n.body) (drop n.body bytes) (omega (arith, length-drop n.body bytes)) in
+    let ordered = h.0.within.ordered in
+    let within = h.0.within.within in
+    let one = node_place bytes (default_in n.content.mime) (Child (prefix_of n.position ++ k ∷ [])) (n.around + 1) n.enclosed (n.body + r.from) (n.body + r.to) (omega (arith, ordered)) (omega (arith, within, size)) in
+    let more = children_place bytes n (k + 1) rs le fits h.1 in
+    λ i d lt. places_cons bytes (node_at bytes (default_in n.content.mime) (Child (prefix_of n.position ++ k ∷ [])) (n.around + 1) n.enclosed (n.body + r.from) (n.body + r.to)) (children_from bytes n (k + 1) rs) one more i d lt
+
+inside_place : (bytes : List ℕ) (n : Node) → HasPlace bytes n → All (HasPlace bytes) (inside bytes n)
+inside_place bytes n place =
+    let text = slice_range bytes n.body n.to in
+    let boundary = unwrap_or n.content.boundary [] in
+    elim (cases_Bool (is_multipart n.content.mime)) [
+      | inl parts ↦
+          subst (λ (ns : List Node). All (HasPlace bytes) ns) (sym (inside_multipart bytes n (sym parts)))
+          (children_place bytes n 1 (places boundary text) place.ordered place.within (places_pass boundary (λ l. true) text (all_or boundary (λ l. true) (lines text) (all_true (lines text)))))
+      | inr one ↦
+          let body = node_place bytes (codes "text/plain") (Body (Some (section_of n.position))) (n.around + 1) true n.body n.to place.ordered place.within in
+          subst (λ (ns : List Node). All (HasPlace bytes) ns) (sym (inside_message bytes n (sym one)))
+          (λ i d lt. places_cons bytes (node_at bytes (codes "text/plain") (Body (Some (section_of n.position))) (n.around + 1) true n.body n.to) [] body (All-nil (HasPlace bytes)) i d lt)
+    ]
+
+-- a node that stands in another, and the boundary of that one
+record Inner (bytes boundary : List ℕ) (c : Node) : Type 0 where
+  place : HasPlace bytes c
+  clear : IsClear bytes boundary c
+
+inner : (bytes : List ℕ) (n c : Node) → HasPlace bytes n → is_multipart n.content.mime ≡ true → StandsIn bytes n c → Inner bytes (unwrap_or n.content.boundary []) c
+inner bytes n _ place parts (direct c at) =
+    let boundary = unwrap_or n.content.boundary [] in
+    record {
+      place = All-contains (HasPlace bytes) (inside bytes n) c (inside_place bytes n place) at;
+      clear = clear_from bytes boundary c (All-contains (λ (m : Node). Each (clear_of boundary) (slice_range bytes m.body m.to)) (inside bytes n) c (own_passes bytes n place.ordered place.within parts) at);
+    }
+inner bytes n _ place parts (deeper m c stands at) =
+    let boundary = unwrap_or n.content.boundary [] in
+    let around = inner bytes n m place parts stands in
+    record {
+      place = All-contains (HasPlace bytes) (inside bytes m) c (inside_place bytes m around.place) at;
+      clear = clear_from bytes boundary c (All-contains (λ (k : Node). Each (clear_of boundary) (slice_range bytes k.body k.to)) (inside bytes m) c
+          (inside_passes (clear_of boundary) bytes m around.place.ordered around.place.within (clear_to bytes boundary m around.clear)) at);
+    }
+
+pub outer_lines_end_parts : (bytes : List ℕ) → OuterLinesEndParts bytes
+outer_lines_end_parts bytes = λ n c place parts stands. (inner bytes n c place parts stands).clear

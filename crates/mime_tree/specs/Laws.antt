@@ -1,6 +1,6 @@
 -- What holds of every tree.
 use Rattle.std.specs.Prelude.{◌≡◌, ◌≢◌, ℕ, ◌≤◌, true, false, List, [], ◌∷◌, length, unwrap_or, slice_range}
-use Rattle.std.specs.List.{All, AllPairs}
+use Rattle.std.specs.List.{All, AllPairs, Contains}
 use Rattle.std.specs.Str.Lines.{lines}
 use Rattle.mime_tree.specs.declared.node.Node.{Node}
 use Rattle.mime_tree.specs.Body.{delimits}
@@ -20,11 +20,16 @@ HasDistinctSections parts = AllPairs (λ (p q : PartValue). p.section ≢ q.sect
 abbrev pub IsClear : List ℕ → List ℕ → Node → Type 0
 IsClear bytes boundary n = All (λ line. delimits boundary line ≡ false) (lines (slice_range bytes n.body n.to))
 
--- what stands in a node is clear of every boundary that the node's body is clear of, and in a multipart of its own
-pub record IsClearIn (bytes : List ℕ) (n child : Node) : Type 0 where
-  pub outer : (boundary : List ℕ) → IsClear bytes boundary n → IsClear bytes boundary child
-  pub own : is_multipart n.content.mime ≡ true → IsClear bytes (unwrap_or n.content.boundary []) child
+-- a node whose body is a place of the message
+pub record HasPlace (bytes : List ℕ) (n : Node) : Type 0 where
+  pub ordered : n.body ≤ n.to
+  pub within : n.to ≤ length bytes
 
--- no line of a part delimits by a boundary around it: this holds of what stands in the message, and of what stands in that
-abbrev pub StaysClear : List ℕ → Type 0
-StaysClear bytes = (n : Node) → n.body ≤ n.to → n.to ≤ length bytes → All (IsClearIn bytes n) (inside bytes n)
+-- what stands in a node, however deep
+pub data StandsIn (bytes : List ℕ) (n : Node) : Node → Type 0 where
+  direct : (c : Node) → Contains (inside bytes n) c → StandsIn bytes n c
+  deeper : (m c : Node) → StandsIn bytes n m → Contains (inside bytes m) c → StandsIn bytes n c
+
+-- no line of a part delimits by the boundary of a multipart around it
+abbrev pub OuterLinesEndParts : List ℕ → Type 0
+OuterLinesEndParts bytes = (n c : Node) → HasPlace bytes n → is_multipart n.content.mime ≡ true → StandsIn bytes n c → IsClear bytes (unwrap_or n.content.boundary []) c
