@@ -19,7 +19,7 @@ line_last : (start at : ℕ) (rest : List ℕ) → 0 < length rest → placed st
 line_last start at rest some = rw (lt-ltb 0 (length rest) some) refl
 
 -- the lines of a text are its first and those of the rest
-lines_step : (start at : ℕ) (rest : List ℕ) → 0 < length rest → lines_from start at rest ≡ line start (at + first_size rest) (first_text rest) ∷ lines_from (at + length (first_text rest)) (at + first_size rest) (drop (first_size rest) rest)
+pub lines_step : (start at : ℕ) (rest : List ℕ) → 0 < length rest → lines_from start at rest ≡ line start (at + first_size rest) (first_text rest) ∷ lines_from (at + length (first_text rest)) (at + first_size rest) (drop (first_size rest) rest)
 lines_step start at rest some =
     elim (cases_lt (position_or_len is_newline rest) (length rest)) [
       | inl lt ↦
@@ -47,7 +47,7 @@ strip_fits l = elim (eqb (get_or l (length l - 1) 0) 13) as (λ t. length (cond 
   | false ↦ omega arith
 ]
 
-text_fits : (rest : List ℕ) → length (first_text rest) ≤ first_size rest
+pub text_fits : (rest : List ℕ) → length (first_text rest) ≤ first_size rest
 text_fits rest =
     elim (cases_lt (position_or_len is_newline rest) (length rest)) [
       | inl lt ↦ omega (arith, ap length (first_text_found rest lt), first_size_found rest lt, strip_fits (before_first is_newline rest), length-take-le (position_or_len is_newline rest) rest (omega arith))

@@ -8,3 +8,5 @@ pub mod BestLemmas
 pub mod ContentLemmas
 pub mod SectionLaws
 pub mod TreeLaws
+pub mod LineLaws
+pub mod ClearLaws

@@ -1,6 +1,6 @@
 -- What stands in a node, and the tree after so many steps.
 use Rattle.std.proofs.Common.{◌≡◌, ℕ, zero, suc, ◌+◌, ◌-◌, ◌<◌, ◌≤◌, ◌*◌, inl, inr, Bool, true, false, ◌&&◌, cond, List, [], ◌∷◌, ◌++◌, length, drop, get_or, refl, sym, ap, ◌∙◌, subst, arith, length-append, append_assoc, add-one, drop-cons}
-use Rattle.std.proofs.lemmas.Bool.{cases_Bool, le-leb, lt-leb, leb-true}
+use Rattle.std.proofs.lemmas.Bool.{and_parts, cases_Bool, le-leb, lt-leb, leb-true}
 use Rattle.std.proofs.lemmas.List.Elements.{All-append, All-push}
 use Rattle.std.proofs.lemmas.List.{reverse-append, length-reverse}
 use Rattle.std.specs.Prelude.{All, Some, reverse, unwrap_or, slice_range, codes}
@@ -161,13 +161,9 @@ unfolding children_from node_at
 whole_children bytes n k [] = refl
 whole_children bytes n k (r ∷ rs) = omega (arith, whole_children bytes n (k + 1) rs)
 
-and_right : (a b : Bool) → (a && b) ≡ true → b ≡ true
-and_right true b h = h
-and_right false b h = absurd cc
-
 pub opens_size : (bytes : List ℕ) (others : ℕ) (n : Node) → opens_beside bytes others n ≡ true → others + length (own bytes n) + length (inside bytes n) ≤ 1000
 unfolding opens_beside
-opens_size bytes others n h = leb-true (others + length (own bytes n) + length (inside bytes n)) 1000 (and_right (can_open n) _ h)
+opens_size bytes others n h = leb-true (others + length (own bytes n) + length (inside bytes n)) 1000 ((and_parts (can_open n) _ h).1)
 
 -- opening a node makes the work less: twice the parts that may come, and the nodes that may be none
 record Less (bytes : List ℕ) (n : Node) : Type 0 where

@@ -1,6 +1,6 @@
 -- The sections of a tree are distinct: what is settled and what waits has sections apart from each other's, at each step.
-use Rattle.std.proofs.Common.{◌≡◌, ◌≢◌, ℕ, zero, suc, ◌+◌, ◌<◌, inl, inr, Bool, true, false, ◌&&◌, List, [], ◌∷◌, ◌++◌, length, get_or, map, refl, sym, ap, ◌∙◌, subst, arith, append_assoc, append-nil, length-append}
-use Rattle.std.proofs.lemmas.Bool.{cases_Bool}
+use Rattle.std.proofs.Common.{◌≡◌, ◌≢◌, ℕ, zero, suc, ◌+◌, ◌<◌, inl, inr, true, false, ◌&&◌, List, [], ◌∷◌, ◌++◌, length, get_or, map, refl, sym, ap, ◌∙◌, subst, arith, append_assoc, append-nil, length-append}
+use Rattle.std.proofs.lemmas.Bool.{and_from, and_left, and_right, cases_Bool}
 use Rattle.std.proofs.lemmas.List.{map-append, append_cancel_left}
 use Rattle.std.specs.Prelude.{unwrap_or, slice_range}
 use Rattle.mail_io.specs.Section.{numbers_of}
@@ -166,25 +166,13 @@ child_section : (p : Position) → is_body p ≡ false → section_of p ≡ pref
 child_section (Body message) h = absurd cc
 child_section (Child section) h = refl
 
-and_false : (a b : Bool) → b ≡ false → (a && b) ≡ false
-and_false true b h = h
-and_false false b h = refl
-
-and_both : (a b : Bool) → a ≡ true → b ≡ true → (a && b) ≡ true
-and_both true b h g = g
-and_both false b h g = absurd cc
-
-and_first : (a b : Bool) → a ≡ false → (a && b) ≡ false
-and_first true b h = absurd cc
-and_first false b h = refl
-
 one_and : (bytes : List ℕ) (n : Node) (ys : List Claim) → false ≡ (is_body n.position && is_multipart n.content.mime) → ys ≡ map node_claim (inside bytes n) → at (section_of n.position) ∷ ys ≡ opened_claims bytes n
 one_and bytes n ys h e = ap (λ cs. at (section_of n.position) ∷ cs) e ∙ ap (λ ps. map claim_of ps ++ map node_claim (inside bytes n)) (sym (own_part bytes n h))
 
 gives_message : (bytes : List ℕ) (n : Node) → is_multipart n.content.mime ≡ false → Gives (node_claim n) (opened_claims bytes n)
 unfolding node_at
 gives_message bytes n h =
-    let hidden : (is_body n.position && is_multipart n.content.mime) ≡ false = and_false (is_body n.position) (is_multipart n.content.mime) h in
+    let hidden : (is_body n.position && is_multipart n.content.mime) ≡ false = and_right (is_body n.position) (is_multipart n.content.mime) h in
     let one : Gives (node_claim n) (at (section_of n.position) ∷ below (section_of n.position) ∷ []) =
     record { each = (within_section n.position, (within_body n.position, tt)); separate = ((apart_below (section_of n.position), tt), (tt, tt)) } in
     gives_moved (node_claim n) _ _ (one_and bytes n (below (section_of n.position) ∷ []) (sym hidden) (sym (ap (map node_claim) (inside_message bytes n (sym h))))) one
@@ -195,12 +183,12 @@ gives_multipart bytes n h =
     let children : child_claims bytes n 1 rs ≡ map node_claim (inside bytes n) = sym (ap (map node_claim) (inside_multipart bytes n (sym h))) in
     elim (cases_Bool (is_body n.position)) [
       | inl whole ↦
-          let hidden : (is_body n.position && is_multipart n.content.mime) ≡ true = and_both (is_body n.position) (is_multipart n.content.mime) whole h in
+          let hidden : (is_body n.position && is_multipart n.content.mime) ≡ true = and_from (is_body n.position) (is_multipart n.content.mime) whole h in
           gives_moved (node_claim n) (child_claims bytes n 1 rs) (opened_claims bytes n)
           (children ∙ ap (λ ps. map claim_of ps ++ map node_claim (inside bytes n)) (sym (own_hidden bytes n (sym hidden))))
           (record { each = children_within bytes n 1 rs; separate = children_separate bytes n 1 rs })
       | inr child ↦
-          let hidden : (is_body n.position && is_multipart n.content.mime) ≡ false = and_first (is_body n.position) (is_multipart n.content.mime) child in
+          let hidden : (is_body n.position && is_multipart n.content.mime) ≡ false = and_left (is_body n.position) (is_multipart n.content.mime) child in
           gives_moved (node_claim n) (at (section_of n.position) ∷ child_claims bytes n 1 rs) (opened_claims bytes n)
           (one_and bytes n (child_claims bytes n 1 rs) (sym hidden) children)
           (record { each = (within_section n.position, children_within bytes n 1 rs); separate = (children_apart bytes n (section_of n.position) 1 rs (child_section n.position child), children_separate bytes n 1 rs) })

@@ -58,6 +58,7 @@ abbrev pub shown_of : Option PartValue → Option PartValue → Shown
 shown_of (Some p) other = shown_as p
 shown_of None other = shown_else other
 
--- what is shown of a message: the leaf that it gives, else the first of an unread charset
+-- what is shown of a message: the leaf that it gives, else the first of an unread charset. A section has 40 numbers at most,
+-- so 40 multiparts in each other are all that there can be
 unfoldable pub best_of : TreeValue → Shown
 best_of t = shown_of (given 40 t []) (find is_text t.parts)

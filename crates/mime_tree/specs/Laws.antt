@@ -1,8 +1,12 @@
 -- What holds of every tree.
-use Rattle.std.specs.Prelude.{◌≡◌, ◌≢◌, ℕ, List, [], ◌∷◌}
-use Rattle.std.specs.List.{AllPairs}
+use Rattle.std.specs.Prelude.{◌≡◌, ◌≢◌, ℕ, ◌≤◌, true, false, List, [], ◌∷◌, length, unwrap_or, slice_range}
+use Rattle.std.specs.List.{All, AllPairs, Contains}
+use Rattle.std.specs.Str.Lines.{lines}
+use Rattle.mime_tree.specs.declared.node.Node.{Node}
+use Rattle.mime_tree.specs.Body.{delimits}
+use Rattle.mime_tree.specs.Content.{is_multipart}
 use Rattle.mime_tree.specs.Tree.{PartValue}
-use Rattle.mime_tree.specs.Opening.{opened, message_of}
+use Rattle.mime_tree.specs.Opening.{inside, opened, message_of}
 
 -- nothing waits unopened after the steps of the definition
 abbrev pub NothingWaits : List ℕ → Type 0
@@ -11,3 +15,21 @@ NothingWaits bytes = (opened bytes 2001 [] (message_of bytes ∷ [])).waiting �
 -- no two parts have one section
 abbrev pub HasDistinctSections : List PartValue → Type 0
 HasDistinctSections parts = AllPairs (λ (p q : PartValue). p.section ≢ q.section) parts
+
+-- no line of a node's body delimits by a boundary
+abbrev pub IsClear : List ℕ → List ℕ → Node → Type 0
+IsClear bytes boundary n = All (λ line. delimits boundary line ≡ false) (lines (slice_range bytes n.body n.to))
+
+-- a node whose body is a place of the message
+pub record HasPlace (bytes : List ℕ) (n : Node) : Type 0 where
+  pub ordered : n.body ≤ n.to
+  pub within : n.to ≤ length bytes
+
+-- what stands in a node, however deep
+pub data StandsIn (bytes : List ℕ) (n : Node) : Node → Type 0 where
+  direct : (c : Node) → Contains (inside bytes n) c → StandsIn bytes n c
+  deeper : (m c : Node) → StandsIn bytes n m → Contains (inside bytes m) c → StandsIn bytes n c
+
+-- no line of a part delimits by the boundary of a multipart around it
+abbrev pub OuterLinesEndParts : List ℕ → Type 0
+OuterLinesEndParts bytes = (n c : Node) → HasPlace bytes n → is_multipart n.content.mime ≡ true → StandsIn bytes n c → IsClear bytes (unwrap_or n.content.boundary []) c
