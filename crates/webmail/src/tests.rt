@@ -312,21 +312,24 @@ fn answers_faults(rt: HostRuntime) -> Result<(), Fail> {
 #[test]
 fn answers_wrong_words(rt: HostRuntime) -> Result<(), Fail> {
     let alloc = rt.alloc();
-    for words in [
-        [].as_slice(),
-        ["shown"].as_slice(),
-        ["show", "--part"].as_slice(),
-        ["show", "show"].as_slice(),
-        ["--part", "1", "show"].as_slice(),
-        ["show", "--parts", "1"].as_slice(),
-        ["show", "--part", "0"].as_slice(),
-        ["show", "--part", "1.02"].as_slice(),
-        ["show", "--part", "1", "1"].as_slice(),
+    for (words, why) in [
+        ([].as_slice(), "no word"),
+        (["shown"].as_slice(), "another word"),
+        (["show", "--part"].as_slice(), "no section"),
+        (["show", "show"].as_slice(), "a word too many"),
+        (["--part", "1", "show"].as_slice(), "the wrong order"),
+        (["show", "--parts", "1"].as_slice(), "another option"),
+        (["show", "--part", "0"].as_slice(), "a part of no number"),
+        (
+            ["show", "--part", "1.02"].as_slice(),
+            "a number with a zero first",
+        ),
+        (["show", "--part", "1", "1"].as_slice(), "a fourth word"),
     ] {
         // nothing is read, so a source that fails isn't told
         let run = run_on(alloc, words, Vec::new(alloc), &[1], &[], 4096)?;
-        assert_eq!(rt; run.status, WRONG_WORDS, "{words:?}");
-        assert_eq!(rt; run.page.len(), 0, "{words:?}");
+        assert_eq!(rt; run.status, WRONG_WORDS, "{why}");
+        assert_eq!(rt; run.page.len(), 0, "{why}");
     }
     Ok(())
 }
@@ -355,10 +358,10 @@ fn answers_parts_that_are_not_shown(rt: HostRuntime) -> Result<(), Fail> {
         assert_eq!(rt; run.status, status, "{section}");
         assert_eq!(rt; run.page.len(), 0, "{section}");
     }
-    for message in [NEWSLETTER, FLOWED] {
+    for (message, kind) in [(NEWSLETTER, "a page"), (FLOWED, "flowed text")] {
         let message = Vec::from_slice(alloc, message)?;
         let run = run_on(alloc, &["show"], message, &[], &[1], 4096)?;
-        assert_eq!(rt; run.status, NOT_BUILT);
+        assert_eq!(rt; run.status, NOT_BUILT, "{kind}");
     }
     Ok(())
 }
