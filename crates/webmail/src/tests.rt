@@ -220,11 +220,12 @@ fn shows_plain_messages(rt: HostRuntime) -> Result<(), Fail> {
 #[test]
 fn shows_parts(rt: HostRuntime) -> Result<(), Fail> {
     let alloc = rt.alloc();
-    for (words, message, title, mail, items) in [
+    for (words, message, title, rows, mail, items) in [
         (
             ["show"].as_slice(),
             b"Content-Type: text/plain; charset=iso-8859-1\r\nContent-Transfer-Encoding: quoted-printable\r\n\r\ncaf=e9 =3d 1=\r\n0".as_slice(),
             "(no subject)",
+            "",
             "<pre>\ncaf\u{E9} = 10</pre>",
             "<li><a href=\"/part/0/0/1?f=\">1</a> text/plain 16</li>",
         ),
@@ -232,6 +233,7 @@ fn shows_parts(rt: HostRuntime) -> Result<(), Fail> {
             ["show"].as_slice(),
             b"Content-Type: text/plain; charset=koi8-r\r\n\r\nx".as_slice(),
             "(no subject)",
+            "",
             "<p>Charset koi8-r is not read here; part 1 is offered below.</p>",
             "<li><a href=\"/part/0/0/1?f=\">1</a> text/plain 1</li>",
         ),
@@ -239,6 +241,7 @@ fn shows_parts(rt: HostRuntime) -> Result<(), Fail> {
             ["show", "--part", "1"].as_slice(),
             b"Subject: t\r\n\r\nx".as_slice(),
             "t",
+            "",
             "<pre>\nx</pre>",
             "<li><a href=\"/part/0/0/1?f=\">1</a> text/plain 1</li>",
         ),
@@ -246,6 +249,7 @@ fn shows_parts(rt: HostRuntime) -> Result<(), Fail> {
             ["show", "--part", "1"].as_slice(),
             NEWSLETTER,
             "Caf\u{E9} week",
+            "<tr><th>From</th><td>&quot;College News&quot; &lt;news@c.example&gt;</td></tr><tr><th>To</th><td>ann@c.example</td></tr><tr><th>Date</th><td>Mon, 5 Jan 2026 09:00:00 +0000</td></tr>",
             "<pre>\nCafe week</pre>",
             "<li><a href=\"/part/0/0/1?f=\">1</a> text/plain 9</li><li><a href=\"/part/0/0/2.1?f=\">2.1</a> text/html 307</li><li><a href=\"/part/0/0/2.2?f=\">2.2</a> image/png top.png 8</li><li><a href=\"/part/0/0/2.3?f=\">2.3</a> image/gif 8</li>",
         ),
@@ -253,6 +257,7 @@ fn shows_parts(rt: HostRuntime) -> Result<(), Fail> {
             ["show"].as_slice(),
             ATTACHMENTS,
             "(no subject)",
+            "",
             "<p>No text to show.</p>",
             "<li><a href=\"/part/0/0/1?f=\">1</a> application/pdf &lt;b&gt;.pdf 4</li><li><a href=\"/part/0/0/2?f=\">2</a> text/plain \u{E9}.txt 1</li>",
         ),
@@ -260,6 +265,7 @@ fn shows_parts(rt: HostRuntime) -> Result<(), Fail> {
             ["show", "--part", "2"].as_slice(),
             ATTACHMENTS,
             "(no subject)",
+            "",
             "<pre>\nx</pre>",
             "<li><a href=\"/part/0/0/1?f=\">1</a> application/pdf &lt;b&gt;.pdf 4</li><li><a href=\"/part/0/0/2?f=\">2</a> text/plain \u{E9}.txt 1</li>",
         ),
@@ -267,6 +273,7 @@ fn shows_parts(rt: HostRuntime) -> Result<(), Fail> {
             ["show", "--part", "2.1"].as_slice(),
             FORWARDED,
             "(no subject)",
+            "",
             "<pre>\ninner</pre>",
             "<li><a href=\"/part/0/0/1?f=\">1</a> text/plain 3</li><li><a href=\"/part/0/0/2.1?f=\">2.1</a> text/plain 5</li>",
         ),
@@ -274,18 +281,16 @@ fn shows_parts(rt: HostRuntime) -> Result<(), Fail> {
             ["show"].as_slice(),
             UNREAD,
             "(no subject)",
+            "",
             "<p>Charset &lt;i&gt; is not read here; part 1 is offered below.</p>",
             "<li><a href=\"/part/0/0/1?f=\">1</a> text/plain 1</li><li><a href=\"/part/0/0/2?f=\">2</a> image/png 1</li>",
         ),
     ] {
-        let want = framed(alloc, title, "", mail, items)?;
+        let want = framed(alloc, title, rows, mail, items)?;
         let message = Vec::from_slice(alloc, message)?;
         let run = run_on(alloc, words, message, &[], &[], 4096)?;
         assert_eq!(rt; run.status, DONE, "{mail}");
-        assert!(rt;
-            run.page.ends_with(&want[want.find("</h1>").unwrap_or(0)..]),
-            "{mail}"
-        );
+        assert_eq!(rt; run.page.as_str(), want.as_str());
     }
     Ok(())
 }
