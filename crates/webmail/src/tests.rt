@@ -46,7 +46,7 @@ Content-Type: text/html; charset=utf-8\r\n\
 Content-Transfer-Encoding: quoted-printable\r\n\
 \r\n\
 <html><head><style>p{color:red}</style></head><body bgcolor=3D\"#fff\"><table=\r\n\
- width=3D\"600\"><tr><td><img src=3D\"cid:top@n\" width=3D600 height=3D80><p cl=\r\n\
+\x20width=3D\"600\"><tr><td><img src=3D\"cid:top@n\" width=3D600 height=3D80><p cl=\r\n\
 ass=3D\"x\" style=3D\"color:#333;margin:0 0 10px\">Caf=C3=A9</p><img src=3D\"htt=\r\n\
 p://t.example/o\"><img src=3D\"cid:foot@n\"></td></tr></table></body></html>\r\n\
 --r1\r\n\
