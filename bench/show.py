@@ -1,5 +1,6 @@
 #!/usr/bin/env python3
-"""Times `webmail show` on messages of 2.6 and 26 MB, plain and hostile, beside Python's own decode, escape and encode.
+"""Times `webmail show` on messages of 2.6 and 26 MB, plain and hostile, beside Python's own decode, escape and encode,
+and one of a large attachment beside `base64 -d`.
 
 Run by hand after `tools/show --build`. Prints processor seconds (user and system), peak memory for each byte read, and the
 ratios that matter. Exits with 1 where a bound is passed.
@@ -10,6 +11,7 @@ TOP = os.path.dirname(os.path.dirname(os.path.abspath(__file__)))
 PROGRAM = os.path.join(TOP, "crates", "webmail", "out", "webmail")
 LARGE = 26_214_400
 SMALL = LARGE // 10
+ATTACHED = 20_000_000
 HEAD = b"Subject: bench\r\n\r\n"
 
 
@@ -59,6 +61,18 @@ def measure(command, source):
     return best
 
 
+def write_attached(path, attachment, size):
+    """Writes a message of a short text and an attachment of so many bytes under base64, and the attachment by itself."""
+    line = b"QUJDREVGR0hJSktMTU5PUFFSU1RVVldYWVphYmNkZWZnaGlqa2xtbm9wcXJzdHV2d3h5ejAxMjM0\r\n"
+    with open(path, "wb") as message, open(attachment, "wb") as file:
+        message.write(b"Subject: bench\r\nContent-Type: multipart/mixed; boundary=b\r\n\r\n--b\r\n\r\nsee below\r\n--b\r\n")
+        message.write(b"Content-Type: image/png; name=a.png\r\nContent-Transfer-Encoding: base64\r\n\r\n")
+        for _ in range(size // len(line)):
+            message.write(line)
+            file.write(line.replace(b"\r", b""))
+        message.write(b"--b--\r\n")
+
+
 PYTHON = (
     "import html, sys\n"
     "body = sys.stdin.buffer.read()\n"
@@ -84,7 +98,14 @@ def main():
                     seconds[name, "python"] = python
                     seconds[name, "peak"] = peak * 1024 / size
                     print(f"{name:26} {own:7.3f} s  python {python:7.3f} s  {own / python:5.2f}  {peak * 1024 / size:6.2f} bytes a byte")
+        path, attachment = os.path.join(folder, "message"), os.path.join(folder, "attachment")
+        write_attached(path, attachment, ATTACHED)
+        own, peak = measure([PROGRAM, "show"], path)
+        decoding, _ = measure(["base64", "-d"], attachment)
+        print(f"{'an attachment of 20 MB':26} {own:7.3f} s  base64 {decoding:7.3f} s  {own / decoding:5.2f}  {peak * 1024 / ATTACHED:6.2f} bytes a byte")
         bounds = [
+            ("an attachment beside base64 -d", own / decoding, 3),
+            ("an attachment: memory", peak * 1024 / ATTACHED, 3),
             ("plain text beside Python", seconds["plain text", LARGE] / seconds["plain text", "python"], 2),
             ("less-than signs beside Python", seconds["less-than signs", LARGE] / seconds["less-than signs", "python"], 1),
         ]
