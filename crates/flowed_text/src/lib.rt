@@ -1,0 +1,16 @@
+//! Flowed text (RFC 3676): the paragraphs of a text of `format=flowed`, and paragraphs written as one.
+#![tactic(auto)]
+
+mod lines;
+mod reading;
+
+use mail_io::Text;
+pub use reading::read_flowed;
+pub use std::alloc::AllocError as Memory;
+
+/// A paragraph, or a line that stands alone: how deep it is quoted, and its text.
+#[derive(Drop)]
+pub struct Para {
+    pub depth: u32,
+    pub text: Text,
+}
