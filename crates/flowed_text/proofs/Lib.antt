@@ -1,3 +1,5 @@
 mod Examples
 mod LineCuts
 mod Joining
+mod Breaks
+mod Written

@@ -3,10 +3,12 @@
 
 mod lines;
 mod reading;
+mod writing;
 
 use mail_io::Text;
 pub use reading::read_flowed;
 pub use std::alloc::AllocError as Memory;
+pub use writing::write_flowed;
 
 /// A paragraph, or a line that stands alone: how deep it is quoted, and its text.
 #[derive(Drop)]
