@@ -49,6 +49,11 @@ spaces : paras_of (codes " " ++ crlf ++ codes "  " ++ crlf ++ codes "x") false �
 unfolding paras_of lines
 spaces = refl
 
+-- empty lines are paragraphs
+empty_lines : paras_of (crlf ++ codes "> " ++ crlf ++ codes ">" ++ crlf) false ≡ para 0 [] ∷ para 1 [] ∷ para 1 [] ∷ []
+unfolding paras_of lines
+empty_lines = refl
+
 -- a lone CR ends a line, and so does a lone LF; a last line needs no ending
 endings : lines (codes "a" ++ 13 ∷ codes "b" ++ 10 ∷ 13 ∷ 13 ∷ 10 ∷ 10 ∷ codes "c") ≡ codes "a" ∷ codes "b" ∷ [] ∷ [] ∷ [] ∷ codes "c" ∷ []
 unfolding lines
@@ -78,6 +83,11 @@ x's n = replicate n 120
 long_word : flow (para 0 (codes "a " ++ x's 100 ++ codes " b") ∷ []) ≡ codes "a " ++ crlf ++ x's 100 ++ codes " " ++ crlf ++ codes "b" ++ crlf
 unfolding flow line_end
 long_word = refl
+
+-- a line that goes on with `From ` is stuffed too
+from_here : flow (para 0 (x's 74 ++ codes " From here") ∷ []) ≡ x's 74 ++ codes " " ++ crlf ++ codes " From here" ++ crlf
+unfolding flow line_end
+from_here = refl
 
 -- 76 characters stand before the flowing space, and two spaces at a break are a flowing one and a stuffed line
 two_spaces : flow (para 0 (x's 76 ++ codes "  b") ∷ []) ≡ x's 76 ++ codes " " ++ crlf ++ codes "  b" ++ crlf

@@ -3,3 +3,5 @@ mod LineCuts
 mod Joining
 mod Breaks
 mod Written
+mod ReadBack
+mod RoundTrip

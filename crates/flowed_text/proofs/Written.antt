@@ -38,10 +38,10 @@ pub record Written (depth : ℕ) (before out rest whole : List ℕ) : Type 0 whe
 pub written-start : (depth : ℕ) (out text rest : List ℕ) → rest ≡ text → Written depth out out rest (flat_map (ended_line depth) (texts depth text))
 written-start depth out text rest same = record { more = length rest; bound = omega arith; is = ap (λ t. out ++ flat_map (ended_line depth) (texts depth t)) same }
 
-texts-more : (more depth : ℕ) (rest : List ℕ) (end : ℕ) → Some end ≡ line_end depth rest → texts_within (suc more) depth rest ≡ take end rest ∷ texts_within more depth (drop end rest)
+pub texts-more : (more depth : ℕ) (rest : List ℕ) (end : ℕ) → Some end ≡ line_end depth rest → texts_within (suc more) depth rest ≡ take end rest ∷ texts_within more depth (drop end rest)
 texts-more more depth rest end ends = rw (sym ends, texts_within) refl
 
-texts-last : (more depth : ℕ) (rest : List ℕ) → None ≡ line_end depth rest → texts_within more depth rest ≡ rest ∷ []
+pub texts-last : (more depth : ℕ) (rest : List ℕ) → None ≡ line_end depth rest → texts_within more depth rest ≡ rest ∷ []
 texts-last zero depth rest last = refl
 texts-last (suc more) depth rest last = rw (sym last, texts_within) refl
 

@@ -11,7 +11,7 @@ pub use std::alloc::AllocError as Memory;
 pub use writing::write_flowed;
 
 /// A paragraph, or a line that stands alone: how deep it is quoted, and its text.
-#[derive(Drop)]
+#[derive(PartialEq, Eq, Drop)]
 pub struct Para {
     pub depth: u32,
     pub text: Text,

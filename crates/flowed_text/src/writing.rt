@@ -1,6 +1,8 @@
 //! Writes flowed text.
-ghost use Rattle.std.specs.Prelude.{◌≡◌, ◌++◌, ◌-◌, ◌<◌, ◌≤◌, IfOk, OnOk, IfSome, length, slice_index, string_bytes};
-ghost use Rattle.flowed_text.specs.Flow.{begins_character, ended_line, flow, flow_para, is_stuffed as is_stuffed_of, line_end as line_end_of, least, may_end as may_end_of};
+ghost use Rattle.std.specs.Prelude.{◌≡◌, ◌++◌, ◌-◌, ◌^◌, ◌<◌, false, ◌≤◌, IfOk, OnOk, IfSome, length, slice_index, string_bytes};
+ghost use Rattle.std.specs.List.{All};
+ghost use Rattle.flowed_text.specs.Paragraphs.{paras_of};
+ghost use Rattle.flowed_text.specs.Flow.{IsWhole, begins_character, ended_line, flow, flow_para, is_stuffed as is_stuffed_of, line_end as line_end_of, least, may_end as may_end_of};
 
 use crate::{Memory, Para};
 use std::alloc::Global;
@@ -9,8 +11,11 @@ use std::alloc::Global;
 const WIDTH: usize = 76;
 
 /// Paragraphs as a text of `format=flowed` (RFC 3676 §4.2), without DelSp.
+///
+/// They are read as they were where none holds CR or LF and none ends in a space but the line before a signature.
 pub fn write_flowed(alloc: Global, paras: &[Para]) -> Result<String, Memory>
     ensures text { IfOk result (λ text. string_bytes text ≡ flow paras.now) }
+    ensures reads { All IsWhole paras.now → IfOk result (λ text. paras_of (string_bytes text) false ≡ paras.now) }
 {
     let mut text = String::new(alloc);
     for para in paras {
@@ -20,7 +25,8 @@ pub fn write_flowed(alloc: Global, paras: &[Para]) -> Result<String, Memory>
 }
 
 fn write_para(out: &mut String, para: &Para) -> Result<(), Memory>
-    ensures { OnOk result (string_bytes out.new ≡ string_bytes out.old ++ flow_para para.now) }
+    ensures depth { para.now.depth < 2 ^ 32 }
+    ensures text { OnOk result (string_bytes out.new ≡ string_bytes out.old ++ flow_para para.now) }
 {
     let mut rest = para.text.as_str();
     while let Some(end) = line_end(para.depth, rest) {

@@ -20,7 +20,7 @@ loop-end-preserved c = record {
       c.split_at.ensures.front c.split_at.ensures.back c.split_at.ensures.back_len c.in_ok-write_line.ensures;
 }
 
-pub returns : goal.returns
-returns c =
+pub returns-clause-text : goal.returns-clause-text
+returns-clause-text c =
     written-last c.write_line-2.result c.args.para.now.depth (string_bytes c.args.out.now) (string_bytes c.loop-end.out) (string_bytes c.write_line-2.new.out) c.loop-end.rest.now
     (flow_para c.args.para.now) c.loop-end.invariant.written c.in_default.ensures.value c.write_line-2.ensures
