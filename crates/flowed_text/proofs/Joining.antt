@@ -5,10 +5,10 @@ use Rattle.std.proofs.Math.Seq.{take-append-add}
 use Rattle.std.specs.Prelude.{map, min, IfOk, string_bytes}
 use Rattle.std.specs.Str.{bytes_eq}
 use Rattle.flowed_text.specs.declared.reading.Begun.{Begun}
-use Rattle.flowed_text.specs.Reading.{continued_by, para_of}
+use Rattle.flowed_text.specs.Reading.{continued, continued_by, para_of}
 use Rattle.flowed_text.specs.declared.Para.{Para}
 use Rattle.flowed_text.specs.Lines.{lines}
-use Rattle.flowed_text.specs.Paragraphs.{continued, ends_in_space, flowed, flows, is_next, joined, marks, onto_first_para, paras_of, read_line, signature}
+use Rattle.flowed_text.specs.Paragraphs.{ends_in_space, flowed, flows, is_next, joined, marks, onto_first_para, paras_of, read_line, signature}
 
 -- ---- the marks of a line
 

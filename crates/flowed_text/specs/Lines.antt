@@ -20,11 +20,11 @@ without_empty_last [] = []
 without_empty_last (line ∷ []) = if length line == 0 then [] else line ∷ []
 without_empty_last (line ∷ next ∷ more) = line ∷ without_empty_last (next ∷ more)
 
+-- the lines, without their endings
+unfoldable pub lines : List ℕ → List (List ℕ)
+lines text = without_empty_last (slice_split is_ending (single_endings text))
+
 -- what follows the line ending that a text begins with
 abbrev pub after_ending : List ℕ → List ℕ
 after_ending [] = []
 after_ending (b ∷ bs) = if b == 13 then without_first 10 bs else without_first 10 (b ∷ bs)
-
--- the lines, without their endings
-unfoldable pub lines : List ℕ → List (List ℕ)
-lines text = without_empty_last (slice_split is_ending (single_endings text))

@@ -52,10 +52,6 @@ abbrev pub joined : Bool → List Para → List Para
 joined del_sp [] = []
 joined del_sp (line ∷ more) = if flows line.text && is_next line.depth more then onto_first_para (flowed del_sp line.text) (joined del_sp more) else line ∷ joined del_sp more
 
--- a paragraph that is read up to a line which flows or not, and the lines after that one
-abbrev pub continued : Bool → Bool → Para → List Para → List Para
-continued del_sp flowing para more = if flowing && is_next para.depth more then onto_first_para (flowed del_sp para.text) (joined del_sp more) else para ∷ joined del_sp more
-
 -- the paragraphs of a text
 unfoldable pub paras_of : List ℕ → Bool → List Para
 paras_of text del_sp = joined del_sp (map read_line (lines text))

@@ -16,3 +16,6 @@ pub struct Para {
     pub depth: u32,
     pub text: Text,
 }
+
+#[cfg(test)]
+mod tests;

@@ -19,7 +19,8 @@ struct Begun {
 
 /// The paragraphs of a text of `format=flowed` (RFC 3676 §4), with `del_sp` where its `DelSp` is yes.
 ///
-/// A line flows only into one of its own depth; where none follows, it keeps its last space.
+/// A line flows only into one of its own depth; where none follows, it is read as a fixed line and keeps its last space
+/// (§4.5). A paragraph takes 32 bytes besides its text, so that a text of empty lines takes 33 times its size.
 pub fn read_flowed(alloc: Global, text: &str, del_sp: bool) -> Result<Vec<Para>, Memory>
     ensures { IfOk result (λ paras. paras.items ≡ paras_of text.now del_sp) }
 {
