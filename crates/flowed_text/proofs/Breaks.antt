@@ -6,10 +6,11 @@ use Rattle.std.specs.Option.{option_or}
 use Rattle.std.specs.Str.{bytes_eq}
 use Rattle.std.proofs.Math.Seq.{take-add}
 use Rattle.std.proofs.Common.{take_all}
-use Rattle.std.proofs.lemmas.Bool.{and_parts, and_right, cases_lt, eqb-true, le-leb, lt-leb}
+use Rattle.std.proofs.lemmas.Bool.{and_left, and_parts, and_right, cases_Bool, cases_lt, eqb-true, le-leb, lt-leb}
 use Rattle.std.proofs.lemmas.List.Folds.{sum_by-replicate}
 use Rattle.std.proofs.lemmas.List.Sums.{count_by_more_no, count_by_more_yes, sum_by-append}
 use Rattle.flowed_text.specs.Paragraphs.{signature}
+use Rattle.flowed_text.proofs.Stuffing.{stuffed-first}
 use Rattle.flowed_text.specs.Flow.{begins_character, greatest, is_short, is_stuffed, least, line_end, may_end, prefix, whole_line, width}
 
 -- ---- the least and the greatest number that passes
@@ -128,13 +129,26 @@ line_end-none depth text fits =
 lt_along : (a b : ℕ) → 76 < a → a ≤ b → 76 < b
 lt_along a b low le = omega arith
 
+-- a line's own text is stuffed as the whole text is
+width-first : (depth : ℕ) (text : List ℕ) (size : ℕ) → 0 < size → may_end text size ≡ true → width (prefix depth (take size text) ++ take (size - 1) text) ≡ width (prefix depth text ++ take (size - 1) text)
+width-first depth text size some may =
+    let space = and_parts (get_or text (size - 1) 0 == 32) (not (bytes_eq (take size text) signature)) may in
+    ap (λ b. width ((replicate depth 62 ++ cond b (32 ∷ []) []) ++ take (size - 1) text)) (stuffed-first depth text size some space.0)
+
+-- no line that goes on past these bytes is short
+long_past : (depth : ℕ) (text : List ℕ) (size k : ℕ) → 76 < width (prefix depth text ++ take size text) → size < k → is_good depth text k ≡ false
+long_past depth text size k wide low = elim (cases_Bool (may_end text k)) [
+  | inl may ↦
+      let wider : 76 < width (prefix depth text ++ take (k - 1) text) = lt_along _ _ wide (width-longer (prefix depth text) text size (k - 1) (omega arith)) in
+      and_right (may_end text k) (is_short depth text k) (lt-leb (width (prefix depth (take k text) ++ take (k - 1) text)) 76 (subst (λ n. 76 < n) (sym (width-first depth text k (omega arith) may)) wider))
+  | inr never ↦ and_left (may_end text k) (is_short depth text k) never
+]
+
 pub line_end-wide : (depth : ℕ) (text : List ℕ) (size : ℕ) → size ≤ length text → 76 < width (prefix depth text ++ take size text)
     → option_or (greatest (is_good depth text) size) (least (may_end text) (length text)) ≡ line_end depth text
 unfolding line_end
 line_end-wide depth text size within wide =
-    ap (λ o. option_or o (least (may_end text) (length text))) (sym (greatest-past (is_good depth text) size (length text) within (λ k low high.
-    and_right (may_end text k) (is_short depth text k) (lt-leb (width (prefix depth text ++ take (k - 1) text)) 76
-    (lt_along _ _ wide (width-longer (prefix depth text) text size (k - 1) (omega arith)))))))
+    ap (λ o. option_or o (least (may_end text) (length text))) (sym (greatest-past (is_good depth text) size (length text) within (λ k low high. long_past depth text size k wide low)))
     ∙ sym (ap (λ b. cond b None (wide_end depth text)) (lt-leb (width (whole_line depth text)) 76
     (subst (λ n. 76 < n) (whole depth text) (lt_along _ _ wide (width-longer (prefix depth text) text size (length text) within)))))
 
@@ -172,18 +186,19 @@ pub record Scanned (depth : ℕ) (text : List ℕ) (size wide : ℕ) (last : Opt
 pub scanned-start : (depth : ℕ) (text : List ℕ) → Scanned depth text 0 (depth + cond (is_stuffed depth text) 1 0) None
 scanned-start depth text = record { within = omega arith; width_is = sym (width-none depth text); last_is = refl }
 
-short_here : (depth : ℕ) (text : List ℕ) (size : ℕ) → width (prefix depth text ++ take size text) ≤ 76 → is_short depth text (size + 1) ≡ true
-short_here depth text size fits =
+short_here : (depth : ℕ) (text : List ℕ) (size : ℕ) → width (prefix depth text ++ take size text) ≤ 76 → may_end text (size + 1) ≡ true → is_short depth text (size + 1) ≡ true
+short_here depth text size fits may =
     let same : size ≡ size + 1 - 1 = omega arith in
-    le-leb (width (prefix depth text ++ take (size + 1 - 1) text)) 76 (subst (λ n. width (prefix depth text ++ take n text) ≤ 76) same fits)
+    le-leb (width (prefix depth (take (size + 1) text) ++ take (size + 1 - 1) text)) 76
+    (subst (λ n. n ≤ 76) (ap (λ n. width (prefix depth text ++ take n text)) same ∙ sym (width-first depth text (size + 1) (omega arith) may)) fits)
 
 scanned-last : (p : ℕ → Bool) (i : ℕ) (may : Bool) (last : Option ℕ) → last ≡ greatest p i → p (i + 1) ≡ may → cond may (Some (i + 1)) last ≡ greatest p (i + 1)
 scanned-last p i true last before here = greatest-here p i here
 scanned-last p i false last before other = before ∙ greatest-not_here p i other
 
-and_true : (a b : Bool) → b ≡ true → (a && b) ≡ a
-and_true true b holds = holds
-and_true false b holds = refl
+and_when : (a b : Bool) → (a ≡ true → b ≡ true) → (a && b) ≡ a
+and_when true b holds = holds refl
+and_when false b holds = refl
 
 pub scanned-more : (depth : ℕ) (text : List ℕ) (size wide : ℕ) (last : Option ℕ) (here may : Bool) → Scanned depth text size wide last → wide ≤ 76 → (size ≡ length text → ⊥)
     → here ≡ begins_character (get_or text size 0) → may ≡ may_end text (size + 1) → Scanned depth text (size + 1) (wide + cond here 1 0) (cond may (Some (size + 1)) last)
@@ -194,7 +209,7 @@ scanned-more depth text size wide last here may scanned narrow inside first m =
       within = omega arith;
       width_is = ap (λ n. n + cond here 1 0) scanned.width_is ∙ sym (width-more (prefix depth text) text size here lt first);
       last_is = scanned-last (is_good depth text) size may last scanned.last_is
-          (and_true (may_end text (size + 1)) (is_short depth text (size + 1)) (short_here depth text size fits) ∙ sym m);
+          (and_when (may_end text (size + 1)) (is_short depth text (size + 1)) (short_here depth text size fits) ∙ sym m);
     }
 
 pub scanned-whole : (depth : ℕ) (text : List ℕ) (size wide : ℕ) (last : Option ℕ) → Scanned depth text size wide last → wide ≤ 76 → size ≡ length text → None ≡ line_end depth text

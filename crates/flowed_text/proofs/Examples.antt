@@ -5,7 +5,7 @@ use Rattle.std.specs.List.{flat_map}
 use Rattle.flowed_text.specs.declared.Para.{Para}
 use Rattle.flowed_text.specs.Lines.{lines}
 use Rattle.flowed_text.specs.Paragraphs.{paras_of}
-use Rattle.flowed_text.specs.Flow.{line_end, flow}
+use Rattle.flowed_text.specs.Flow.{line_end, flow, width}
 
 abbrev crlf : List ℕ
 crlf = 13 ∷ 10 ∷ []
@@ -93,6 +93,10 @@ from_here = refl
 two_spaces : flow (para 0 (x's 76 ++ codes "  b") ∷ []) ≡ x's 76 ++ codes " " ++ crlf ++ codes "  b" ++ crlf
 unfolding flow line_end
 two_spaces = refl
+
+-- characters of four, three, two bytes and one
+four_characters : width (240 ∷ 159 ∷ 152 ∷ 128 ∷ 226 ∷ 130 ∷ 172 ∷ 195 ∷ 169 ∷ 97 ∷ []) ≡ 4
+four_characters = refl
 
 -- a character of two bytes counts as one
 abbrev accented : ℕ → List ℕ

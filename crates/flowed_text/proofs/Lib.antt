@@ -5,3 +5,4 @@ mod Breaks
 mod Written
 mod ReadBack
 mod RoundTrip
+mod Stuffing

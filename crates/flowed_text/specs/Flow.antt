@@ -43,9 +43,9 @@ least p (suc n) = option_or (least p n) (if p (suc n) then Some (suc n) else Non
 abbrev pub may_end : List ℕ → ℕ → Bool
 may_end text size = slice_index text (size - 1) == 32 && not (bytes_eq (take size text) signature)
 
--- the line has at most 76 characters before that space. A line's text begins as the whole text does, so both are stuffed alike.
+-- the whole line has at most 76 characters before that space
 abbrev pub is_short : ℕ → List ℕ → ℕ → Bool
-is_short depth text size = nat_le (width (prefix depth text ++ take (size - 1) text)) 76
+is_short depth text size = nat_le (width (prefix depth (take size text) ++ take (size - 1) text)) 76
 
 -- after how many bytes the first line of a text ends; None where the text is the last line
 unfoldable pub line_end : ℕ → List ℕ → Option ℕ
