@@ -17,7 +17,7 @@ begins_character b = nat_lt b 128 || nat_le 192 b
 abbrev pub width : List ℕ → ℕ
 width text = count_by begins_character text
 
--- whether a space stands before the text of a line: after marks, and where the text would be read as something else
+-- whether a space stands before the text of a line: after marks, and before a space, a `>` or `From ` (section 4.4)
 abbrev pub is_stuffed : ℕ → List ℕ → Bool
 is_stuffed depth text = nat_lt 0 depth || (slice_index text 0 == 32 || slice_index text 0 == 62 || starts_with (λ a b. a == b) text (codes "From "))
 

@@ -20,7 +20,7 @@ read_line line = record { depth = min (marks line) 4294967295; text = without_fi
 
 -- ---- lines that flow
 
--- the line before a signature
+-- the line that stands before a signature (section 4.3)
 abbrev pub signature : List ℕ
 signature = codes "-- "
 

@@ -12,7 +12,7 @@ const WIDTH: usize = 76;
 
 /// Paragraphs as a text of `format=flowed` (RFC 3676 §4.2), without DelSp.
 ///
-/// They are read as they were where none holds CR or LF and none ends in a space but the line before a signature.
+/// Reading gives them back where none holds CR or LF, and none but `-- ` ends in a space.
 pub fn write_flowed(alloc: Global, paras: &[Para]) -> Result<String, Memory>
     ensures text { IfOk result (λ text. string_bytes text ≡ flow paras.now) }
     ensures reads { All IsWhole paras.now → IfOk result (λ text. paras_of (string_bytes text) false ≡ paras.now) }
@@ -24,6 +24,7 @@ pub fn write_flowed(alloc: Global, paras: &[Para]) -> Result<String, Memory>
     Ok(text)
 }
 
+/// Adds the lines of a paragraph.
 fn write_para(out: &mut String, para: &Para) -> Result<(), Memory>
     ensures depth { para.now.depth < 2 ^ 32 }
     ensures text { OnOk result (string_bytes out.new ≡ string_bytes out.old ++ flow_para para.now) }
@@ -37,6 +38,7 @@ fn write_para(out: &mut String, para: &Para) -> Result<(), Memory>
     write_line(out, para.depth, rest)
 }
 
+/// Adds a line, with its ending.
 fn write_line(out: &mut String, depth: u32, text: &str) -> Result<(), Memory>
     ensures { OnOk result (string_bytes out.new ≡ string_bytes out.old ++ ended_line depth text.now) }
 {
@@ -86,6 +88,7 @@ fn begins_character(byte: u8) -> bool
     byte < 128 || byte >= 192
 }
 
+/// After how many bytes a line of a text may end at the earliest.
 fn first_end(bytes: &[u8]) -> Option<usize>
     ensures { result ≡ least (may_end_of bytes.now) (length bytes.now) }
 {
