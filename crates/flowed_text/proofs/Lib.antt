@@ -1,0 +1,8 @@
+mod Examples
+mod LineCuts
+mod Joining
+mod Breaks
+mod Written
+mod ReadBack
+mod RoundTrip
+mod Stuffing

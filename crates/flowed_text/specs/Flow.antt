@@ -1,0 +1,81 @@
+-- Paragraphs as flowed text (RFC 3676, section 4.2). Texts are in UTF-8.
+use Rattle.std.specs.Prelude.{ℕ, zero, suc, ◌-◌, nat_lt, nat_le, Bool, false, not, ◌≡◌, ◌==◌, ◌&&◌, ◌||◌, if◌then◌else◌, List, [], ◌∷◌, ◌++◌, length, take, drop, replicate, count_by, slice_index, codes, Option, Some, None}
+use Rattle.std.specs.List.{All, flat_map, starts_with}
+use Rattle.std.specs.Option.{option_or}
+use Rattle.std.specs.Str.{bytes_eq}
+use Rattle.flowed_text.specs.declared.Para.{Para}
+use Rattle.flowed_text.specs.Lines.{is_ending}
+use Rattle.flowed_text.specs.Paragraphs.{flows, signature}
+
+-- ---- a line
+
+-- a byte of UTF-8 that begins a character: the others of a character are 0x80 to 0xBF
+abbrev pub begins_character : ℕ → Bool
+begins_character b = nat_lt b 128 || nat_le 192 b
+
+-- how many characters a text has
+abbrev pub width : List ℕ → ℕ
+width text = count_by begins_character text
+
+-- whether a space stands before the text of a line: after marks, and before a space, a `>` or `From ` (section 4.4)
+abbrev pub is_stuffed : ℕ → List ℕ → Bool
+is_stuffed depth text = nat_lt 0 depth || (slice_index text 0 == 32 || slice_index text 0 == 62 || starts_with (λ a b. a == b) text (codes "From "))
+
+-- what stands before the text of a line
+abbrev pub prefix : ℕ → List ℕ → List ℕ
+prefix depth text = replicate depth 62 ++ (if is_stuffed depth text then 32 ∷ [] else [])
+
+abbrev pub whole_line : ℕ → List ℕ → List ℕ
+whole_line depth text = prefix depth text ++ text
+
+-- ---- the lines of a paragraph
+
+-- the greatest, and the least, of the numbers from 1 on up to n that pass
+abbrev pub greatest : (ℕ → Bool) → ℕ → Option ℕ
+greatest p zero = None
+greatest p (suc n) = if p (suc n) then Some (suc n) else greatest p n
+
+abbrev pub least : (ℕ → Bool) → ℕ → Option ℕ
+least p zero = None
+least p (suc n) = option_or (least p n) (if p (suc n) then Some (suc n) else None)
+
+-- a line may end after so many bytes of a text: just after a space, and not as `-- `, which would not flow
+abbrev pub may_end : List ℕ → ℕ → Bool
+may_end text size = slice_index text (size - 1) == 32 && not (bytes_eq (take size text) signature)
+
+-- the whole line has at most 76 characters before that space
+abbrev pub is_short : ℕ → List ℕ → ℕ → Bool
+is_short depth text size = nat_le (width (prefix depth (take size text) ++ take (size - 1) text)) 76
+
+-- after how many bytes the first line of a text ends; None where the text is the last line
+unfoldable pub line_end : ℕ → List ℕ → Option ℕ
+line_end depth text = if nat_le (width (whole_line depth text)) 76 then None
+    else option_or (greatest (λ size. may_end text size && is_short depth text size) (length text)) (least (may_end text) (length text))
+
+-- the texts of a paragraph's lines, of which there are at most `more` after the first
+abbrev pub texts_within : ℕ → ℕ → List ℕ → List (List ℕ)
+texts_within zero depth text = text ∷ []
+texts_within (suc more) depth text = elim (line_end depth text) [
+  | None ↦ text ∷ []
+  | Some size ↦ take size text ∷ texts_within more depth (drop size text)
+]
+
+-- the texts of a paragraph's lines: each but the last has a byte at least
+abbrev pub texts : ℕ → List ℕ → List (List ℕ)
+texts depth text = texts_within (length text) depth text
+
+-- ---- paragraphs
+
+-- a line with its ending
+abbrev pub ended_line : ℕ → List ℕ → List ℕ
+ended_line depth text = whole_line depth text ++ 13 ∷ 10 ∷ []
+
+abbrev pub flow_para : Para → List ℕ
+flow_para para = flat_map (ended_line para.depth) (texts para.depth para.text)
+
+unfoldable pub flow : List Para → List ℕ
+flow paras = flat_map flow_para paras
+
+-- a paragraph that is read as it was written: it holds no CR and no LF, and ends in no space, unless it is `-- `
+abbrev pub IsWhole : Para → Type 0
+IsWhole para = All (λ b. is_ending b ≡ false) para.text × (flows para.text ≡ false)

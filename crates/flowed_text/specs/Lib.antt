@@ -1,0 +1,4 @@
+pub mod Lines
+pub mod Paragraphs
+pub mod Flow
+pub mod Reading
