@@ -1,0 +1,8 @@
+//! Inline styles that can only style.
+#![tactic(auto)]
+
+mod characters;
+mod items;
+mod tables;
+
+pub use std::alloc::AllocError as Memory;
