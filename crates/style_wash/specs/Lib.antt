@@ -4,3 +4,4 @@ pub mod Items
 pub mod Values
 pub mod Declarations
 pub mod Seen
+pub mod Cuts

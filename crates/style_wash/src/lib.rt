@@ -4,5 +4,6 @@
 mod characters;
 mod items;
 mod tables;
+mod values;
 
 pub use std::alloc::AllocError as Memory;
