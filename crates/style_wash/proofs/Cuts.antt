@@ -1,12 +1,12 @@
 -- Values, cut into texts and gaps step by step.
-use Rattle.std.proofs.Common.{◌≡◌, ◌<◌, ◌≤◌, ◌+◌, ◌-◌, ℕ, zero, suc, Bool, true, false, cond, List, [], ◌∷◌, ◌++◌, length, take, drop, get_or, Option, Some, None, refl, sym, ap, ◌∙◌, arith, append_assoc, drop-cons, add-one}
+use Rattle.std.proofs.Common.{◌≡◌, ◌<◌, ◌≤◌, ◌+◌, ℕ, suc, true, false, List, [], ◌∷◌, ◌++◌, length, take, drop, get_or, Option, Some, None, length-append, refl, sym, ap, ◌∙◌, arith, append_assoc, drop-cons, add-one}
 use Rattle.std.proofs.Math.Seq.{take-suc}
-use Rattle.std.proofs.lemmas.List.{append-nil, nil_from_length, length-drop}
+use Rattle.std.proofs.lemmas.List.{append-nil, nil_from_length, length-drop, take-append-le, take_all}
 use Rattle.style_wash.specs.Characters.{is_separator}
 use Rattle.style_wash.specs.Items.{Item, item_of, written_item}
 use Rattle.style_wash.specs.Values.{Place, Parts, Gapped, Separator, Step, parts, with_gap, separates, place_after, separator_of, step_onto, steps_of, value_in, value_onto, written_separator}
 use Rattle.style_wash.specs.Values.Place.{Outside, Until}
-use Rattle.style_wash.specs.Cuts.{IsTextAndRest, IsGapAndRest, begins_gap, written_onto}
+use Rattle.style_wash.specs.Cuts.{IsTextAndRest, Begins, IsGapAndRest, begins_gap, written_onto}
 
 -- parts with characters of a text, or of a gap, at their front
 abbrev pub text_onto : List ℕ → Parts → Parts
@@ -189,3 +189,15 @@ pub next_item : (front text : List ℕ) (left n : ℕ) (item : Item) (separator 
 unfolding value_in steps_of
 next_item front text left n item separator ps rest gap one is i s =
     rw (is, one, add-one, i, s) (written_step_of front item separator (item_of rest.first) (steps_of n rest.more))
+
+pub begins_itself : (front : List ℕ) → Begins front front
+begins_itself front = record { bound = omega arith; is = take_all (length front) front (omega arith) }
+
+-- what begins a text begins it also where more is written
+pub begins_more : (front text more grown : List ℕ) → grown ≡ text ++ more → Begins front text → Begins front grown
+begins_more front text more grown e h =
+    let bound : length front ≤ length text = h.bound in
+    rw e (record {
+      bound = omega (arith, length-append text more);
+      is = rw take-append-le h.is;
+    })

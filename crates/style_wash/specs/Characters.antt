@@ -1,5 +1,5 @@
 -- The characters of declarations, by their numbers in US-ASCII.
-use Rattle.std.specs.Prelude.{ℕ, ◌==◌, Bool, not, ◌&&◌, ◌||◌, List, [], ◌∷◌, ◌-◌, length, take, drop}
+use Rattle.std.specs.Prelude.{ℕ, ◌==◌, Bool, ◌||◌, List, ◌-◌, length, take, drop}
 use Rattle.std.specs.Char.{is_ascii_alphabetic, is_ascii_alphanumeric, is_ascii_digit, is_ascii_whitespace}
 use Rattle.std.specs.List.{prefix_len, suffix_len}
 
@@ -43,6 +43,10 @@ is_mark c = c == 33
 -- white space, `,` or `/`
 abbrev pub is_separator : ℕ → Bool
 is_separator c = is_white c || c == 44 || c == 47
+
+-- the characters that a washed style may have: letters, digits, spaces and `#%'(),-./:;`
+abbrev pub is_style_char : ℕ → Bool
+is_style_char c = is_name_char c || c == 35 || c == 37 || c == 39 || c == 40 || c == 41 || c == 44 || c == 46 || c == 47 || c == 58 || c == 59
 
 -- ---- white space around
 

@@ -1,8 +1,8 @@
 -- Declarations, and the styles that are made of them.
-use Rattle.std.specs.Prelude.{◌≡◌, ℕ, nat_le, ◌==◌, Bool, false, ◌||◌, if◌then◌else◌, List, [], ◌∷◌, ◌++◌, length, codes, Option, Some, None}
+use Rattle.std.specs.Prelude.{◌≡◌, ℕ, nat_le, ◌==◌, Bool, false, ◌||◌, if◌then◌else◌, List, [], ◌∷◌, ◌++◌, length, codes, map, IsTrue, Option, Some, None}
 use Rattle.std.specs.Str.{bytes_eq}
-use Rattle.std.specs.List.{filter_map, join_by, onto_first, position_or_len, before_first, after_first, AllByRecursion}
-use Rattle.style_wash.specs.Characters.{is_colon, is_mark, trimmed}
+use Rattle.std.specs.List.{filter_map, join_by, onto_first, position_or_len, before_first, after_first, list_all, AllByRecursion}
+use Rattle.style_wash.specs.Characters.{is_colon, is_mark, is_style_char, trimmed, without_back}
 use Rattle.style_wash.specs.Tables.{property_of}
 use Rattle.style_wash.specs.Values.{Place, place_after, Value, value_of, written_value}
 use Rattle.style_wash.specs.Values.Place.{Outside, Until}
@@ -15,7 +15,7 @@ pub record Declaration : Type 0 where
 -- No item holds a `!`, so only `important` and white space may stand after the first one.
 unfoldable pub ends_well : List ℕ → Bool
 ends_well text = nat_le (length text) (position_or_len is_mark text)
-    || bytes_eq (trimmed (after_first is_mark text)) (codes "important")
+    || bytes_eq (without_back (after_first is_mark text)) (codes "important")
 
 -- the value that stands after the colon of a declaration: what stands before a last `!important`
 unfoldable pub value_after_colon : List ℕ → Option Value
@@ -72,6 +72,11 @@ pub record IsStyle (text : List ℕ) : Type 0 where
   pub each : AllByRecursion IsDeclaration all
   pub is : text ≡ style_of all
 
+-- the written forms of declarations as the pieces of their style: each but the first stands after a space
+unfoldable pub style_pieces : List Declaration → List (List ℕ)
+style_pieces [] = [] ∷ []
+style_pieces (first ∷ more) = written first ∷ map (λ declaration. 32 ∷ written declaration) more
+
 -- washing a washed style changes nothing
 abbrev pub WashingIsIdempotent : Type 0
 WashingIsIdempotent = (text : List ℕ) → stylewash (stylewash text) ≡ stylewash text
@@ -79,3 +84,13 @@ WashingIsIdempotent = (text : List ℕ) → stylewash (stylewash text) ≡ style
 -- each text is washed into declarations in their written form
 abbrev pub WashedIsStyle : Type 0
 WashedIsStyle = (text : List ℕ) → IsStyle (stylewash text)
+
+-- a style of declarations is cut into exactly their written forms, and reads as exactly these declarations
+abbrev pub StylesAreKept : Type 0
+StylesAreKept =
+    (all : List Declaration) → AllByRecursion IsDeclaration all
+    → (pieces Outside (style_of all) ≡ style_pieces all) × (declarations (style_of all) ≡ all)
+
+-- a washed style has no character beside these, so no `\`, `@`, `"`, `<`, `&`, `{` or `*`
+abbrev pub WashedCharacters : Type 0
+WashedCharacters = (text : List ℕ) → IsTrue (list_all is_style_char (stylewash text))

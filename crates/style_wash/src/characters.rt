@@ -1,6 +1,6 @@
 //! Classes of characters, and white space.
-ghost use Rattle.std.specs.Prelude.{◌≡◌, ◌≤◌, length};
-ghost use Rattle.style_wash.specs.Characters.{is_digit, is_letter, is_name_char, is_quote, is_separator, is_word_char, trimmed};
+ghost use Rattle.std.specs.Prelude.{◌≡◌};
+ghost use Rattle.style_wash.specs.Characters.{is_digit, is_letter, is_name_char, is_quote, is_separator, is_word_char, trimmed, without_back};
 
 pub fn is_digit(c: u8) -> bool
     ensures { result ≡ is_digit c }
@@ -42,4 +42,10 @@ pub fn trim(text: &[u8]) -> &[u8]
     ensures { result.now ≡ trimmed text.now }
 {
     text.trim_ascii()
+}
+
+pub fn trim_back(text: &[u8]) -> &[u8]
+    ensures { result.now ≡ without_back text.now }
+{
+    text.trim_ascii_end()
 }

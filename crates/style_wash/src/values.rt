@@ -2,7 +2,7 @@
 ghost use Rattle.std.specs.Prelude.{◌≡◌, ◌++◌, ◌<◌, if◌then◌else◌, true, IfOk, MatchOption, None, OnOk, Some, length};
 ghost use Rattle.style_wash.specs.Values.{opened, parts, separator_in, place_after, separates, separator_in, separator_of, value_of, written_separator};
 ghost use Rattle.style_wash.specs.Seen.{item_seen, place_seen, separator_seen};
-ghost use Rattle.style_wash.specs.Cuts.{IsGapAndRest, IsTextAndRest, begins_gap, written_onto};
+ghost use Rattle.style_wash.specs.Cuts.{Begins, IsGapAndRest, IsTextAndRest, begins_gap, written_onto};
 
 use crate::characters::{is_quote, is_separator, trim};
 use crate::items::{push_item, read_item};
@@ -103,7 +103,8 @@ const MORE_ITEMS: usize = 15;
 
 /// Writes a value, and says whether the text is one. Where it is none, a part of it may be written.
 pub fn push_value(value: &[u8], written: &mut Vec<u8>) -> Result<bool, Memory>
-    ensures { IfOk result (λ whole.
+    ensures kept { IfOk result (λ whole. Begins written.old.items written.new.items) }
+    ensures value { IfOk result (λ whole.
         written_onto written.old.items (value_of value.now) ≡ (if whole then Some written.new.items else None)) }
 {
     let mut rest = value;

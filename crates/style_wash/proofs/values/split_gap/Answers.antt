@@ -1,4 +1,4 @@
-use Rattle.std.proofs.Common.{◌≡◌, length, get_or, false, true, arith, sym, ◌∙◌, rules}
+use Rattle.std.proofs.Common.{◌≡◌, get_or, true, arith, sym, ◌∙◌}
 use Rattle.std.proofs.lemmas.List.{take_rest}
 use Rattle.style_wash.specs.Characters.{is_separator}
 use Rattle.style_wash.proofs.Cuts.{gap_begins, gap_goes_on, gap_at_end, gap_at_text}

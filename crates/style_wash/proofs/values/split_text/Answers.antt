@@ -1,4 +1,4 @@
-use Rattle.std.proofs.Common.{◌≡◌, ◌+◌, ◌<◌, length, take, drop, get_or, false, true, arith, sym, ap, ◌∙◌, rules}
+use Rattle.std.proofs.Common.{◌≡◌, ◌+◌, take, drop, get_or, false, arith, sym, ap, ◌∙◌, rules}
 use Rattle.std.proofs.lemmas.List.{take_rest}
 use Rattle.style_wash.specs.Seen.{place_seen}
 use Rattle.style_wash.specs.Values.{Place, parts, separates}
