@@ -102,10 +102,11 @@ pub record PlainChar (c : ℕ) : Type 0 where
   pub separator : is_separator c ≡ false
   pub quote : is_quote c ≡ false
   pub bracket : (c == 40) ≡ false
+  pub no_bracket : not (c == 40) ≡ true
   pub item : is_item_char c ≡ true
 
 pub plain_char : (c : ℕ) → is_plain_char c ≡ true → PlainChar c
-plain_char c e = record { separator = grind (arith, nat_tests); quote = grind (arith, nat_tests); bracket = grind (arith, nat_tests); item = grind (arith, nat_tests) }
+plain_char c e = record { separator = grind (arith, nat_tests); quote = grind (arith, nat_tests); bracket = grind (arith, nat_tests); no_bracket = grind (arith, nat_tests); item = grind (arith, nat_tests) }
 
 pub record ItemChar (c : ℕ) : Type 0 where
   pub quote : is_quote c ≡ false
@@ -139,6 +140,12 @@ is_level_char c = c == 44 || is_digit c
 
 pub level_char : (c : ℕ) → is_level_char c ≡ true → is_item_char c ≡ true
 level_char c e = grind (arith, nat_tests)
+
+pub level_no_open : (c : ℕ) → is_level_char c ≡ true → not (c == 40) ≡ true
+level_no_open c e = grind (arith, nat_tests)
+
+pub name_no_open : (c : ℕ) → is_name_char c ≡ true → not (c == 40) ≡ true
+name_no_open c e = grind (arith, nat_tests)
 
 pub level_no_bracket : (c : ℕ) → is_level_char c ≡ true → (c == 41) ≡ false
 level_no_bracket c e = grind (arith, nat_tests)

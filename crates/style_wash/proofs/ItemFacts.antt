@@ -9,11 +9,12 @@ use Rattle.std.proofs.Math.Seq.{take-suc, get_or-append_seam}
 use Rattle.std.proofs.lemmas.List.Sums.{fails_before_first, list_all-from_AllPass}
 use Rattle.style_wash.specs.Characters.{is_comma, is_digit, is_letter, is_name_char, is_quote, is_separator, is_white, is_word_char}
 use Rattle.style_wash.specs.Tables.{is_unit, units}
-use Rattle.style_wash.specs.Items.{Item, are_levels, begins_unit, inner, is_colour, is_decimal, is_level, is_name, is_number, is_plain, is_rgb, is_word, item_of, last, written_item}
+use Rattle.style_wash.specs.Items.{Item, are_levels, begins_unit, inner, is_hex_colour, is_decimal, is_level, is_name, is_number, is_plain, is_rgb, is_word, item_of, last, written_item}
 use Rattle.style_wash.specs.Items.Item.{Plain, Name}
 use Rattle.style_wash.specs.Values.{Place, place_after, separates}
 use Rattle.style_wash.specs.Values.Place.{Outside, Until}
-use Rattle.style_wash.proofs.Facts.{and_true, all_append, all_wider, all_wider_texts, all_parts, among_all, bytes_eq-true, is_plain_char, is_item_char, is_safe, plain_char, item_char, name_char, word_char, letter_char, hexadecimal_char, number_char, is_level_char, level_char, level_no_bracket}
+use Rattle.style_wash.proofs.Calls.{CallsOnlyRgb, calls-append, calls_none, calls_rgb, is_no_bracket}
+use Rattle.style_wash.proofs.Facts.{and_true, all_append, all_wider, all_wider_texts, all_parts, among_all, bytes_eq-true, is_plain_char, is_item_char, is_safe, plain_char, item_char, name_char, word_char, letter_char, hexadecimal_char, number_char, is_level_char, level_char, level_no_bracket, level_no_open, name_no_open}
 
 -- ---- walks over a text
 
@@ -74,12 +75,14 @@ pub record IsUnquoted (text : List ℕ) : Type 0 where
   pub some : 0 < length text
   pub chars : list_all is_item_char text ≡ true
   pub whole : holds Outside text ≡ true
+  pub calls : CallsOnlyRgb text
 
 of_plain_chars : (text : List ℕ) → 0 < length text → list_all is_plain_char text ≡ true → IsUnquoted text
 of_plain_chars text some a = record {
   some = some;
   chars = all_wider is_plain_char is_item_char (λ c e. (plain_char c e).item) text a;
   whole = holds-plain text a;
+  calls = calls_none text (all_wider is_plain_char is_no_bracket (λ c e. (plain_char c e).no_bracket) text a);
 }
 
 of_word : (text : List ℕ) → is_word text ≡ true → IsUnquoted text
@@ -88,7 +91,7 @@ of_word (c ∷ more) e =
     let both = and_true (is_letter c) (list_all is_word_char more) e in
     of_plain_chars (c ∷ more) (omega arith) (rw (letter_char c both.0, all_wider is_word_char is_plain_char word_char more both.1) refl)
 
-of_colour : (text : List ℕ) → is_colour text ≡ true → IsUnquoted text
+of_colour : (text : List ℕ) → is_hex_colour text ≡ true → IsUnquoted text
 of_colour [] e = absurd cc
 of_colour (c ∷ more) e =
     let first = and_true ((c == 35) && (length more == 3 || length more == 6)) (list_all is_ascii_hexdigit more) e in
@@ -146,6 +149,8 @@ of_levels levels a = record {
   some = omega arith;
   chars = all_append is_item_char levels (41 ∷ []) (all_wider is_level_char is_item_char level_char levels a) refl;
   whole = holds-levels levels a;
+  calls = calls_rgb (levels ++ 41 ∷ [])
+      (calls-append levels (41 ∷ []) (calls_none levels (all_wider is_level_char is_no_bracket level_no_open levels a)) (calls_none (41 ∷ []) refl));
 }
 
 of_rgb : (text : List ℕ) → is_rgb text ≡ true → IsUnquoted text
@@ -172,9 +177,9 @@ or_cases false b e = inr e
 
 of_plain : (text : List ℕ) → is_plain text ≡ true → IsUnquoted text
 unfolding is_plain
-of_plain text e = elim (or_cases (is_word text || is_number text || is_colour text) (is_rgb text) e) [
+of_plain text e = elim (or_cases (is_word text || is_number text || is_hex_colour text) (is_rgb text) e) [
   | inr rgb ↦ of_rgb text rgb
-  | inl others ↦ elim (or_cases (is_word text || is_number text) (is_colour text) others) [
+  | inl others ↦ elim (or_cases (is_word text || is_number text) (is_hex_colour text) others) [
     | inr colour ↦ of_colour text colour
     | inl two ↦ elim (or_cases (is_word text) (is_number text) two) [ inl word ↦ of_word text word | inr number ↦ of_number text number ]
   ]
@@ -202,6 +207,7 @@ pub record IsGood (item : Item) : Type 0 where
   pub whole : holds Outside (written_item item) ≡ true
   pub silent : quiet Outside (written_item item) ≡ true
   pub safe : list_all is_safe (written_item item) ≡ true
+  pub calls : CallsOnlyRgb (written_item item)
   pub begins : BeginsDark (written_item item)
   pub ends : EndsDark (written_item item)
 
@@ -235,6 +241,7 @@ good_plain text e =
       whole = unquoted.whole;
       silent = quiet-items text unquoted.chars;
       safe = all_wider is_item_char is_safe (λ c h. (item_char c h).safe) text unquoted.chars;
+      calls = unquoted.calls;
       begins = begins_of text unquoted.some unquoted.whole;
       ends = ends_of text unquoted.some unquoted.chars;
     }
@@ -275,6 +282,7 @@ good_quoted name some few a = record {
   whole = holds-name name a;
   silent = quiet-name name a;
   safe = all_append is_safe name (39 ∷ []) (all_wider is_name_char is_safe (λ c h. (name_char c h).safe) name a) refl;
+  calls = calls_none (39 ∷ name ++ 39 ∷ []) (all_append is_no_bracket name (39 ∷ []) (all_wider is_name_char is_no_bracket name_no_open name a) refl);
   begins = record { first = 39; more = name ++ 39 ∷ []; is = refl; dark = refl };
   ends = record { front = 39 ∷ name; last = 39; is = refl; dark = refl };
 }

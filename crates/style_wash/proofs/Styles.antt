@@ -1,5 +1,5 @@
 -- Washing a washed style changes nothing.
-use Rattle.std.proofs.Common.{◌≡◌, ℕ, ◌+◌, ◌-◌, Bool, true, false, not, ◌&&◌, ◌||◌, ◌==◌, cond, List, [], ◌∷◌, ◌++◌, length, map, take, drop, Option, Some, None, refl, sym, ap, ◌∙◌, arith, append_assoc}
+use Rattle.std.proofs.Common.{◌≡◌, ℕ, ◌+◌, ◌-◌, Bool, true, false, not, ◌&&◌, ◌||◌, ◌==◌, cond, List, [], ◌∷◌, ◌++◌, length, map, take, drop, Option, Some, None, refl, sym, subst, ap, ◌∙◌, arith, append_assoc}
 use Rattle.std.specs.Prelude.{codes}
 use Rattle.std.specs.Str.{bytes_eq, IsAscii}
 use Rattle.std.specs.List.{list_all, filter_map, cons_option, flat_map, onto_first, position_or_len, prefix_len, suffix_len, before_first, after_first, AllByRecursion}
@@ -14,7 +14,8 @@ use Rattle.style_wash.specs.Tables.{properties, property_of}
 use Rattle.style_wash.specs.Values.{Place, Separator, Step, Value, place_after, value_of, written_separator, written_step, written_value}
 use Rattle.style_wash.specs.Values.Place.{Outside, Until}
 use Rattle.style_wash.specs.Values.Separator.{Space, Comma, Slash}
-use Rattle.style_wash.specs.Declarations.{Declaration, IsDeclaration, IsStyle, declaration_of, declaration_with, declarations, ends_piece, ends_well, pieces, style_of, style_pieces, stylewash, value_after_colon, written}
+use Rattle.style_wash.specs.Declarations.{Declaration, IsDeclaration, IsStyle, calls_only_rgb, declaration_of, declaration_with, declarations, ends_piece, ends_well, pieces, style_of, style_pieces, stylewash, value_after_colon, written}
+use Rattle.style_wash.proofs.Calls.{CallsOnlyRgb, calls-append, calls_none, is_no_bracket}
 use Rattle.style_wash.proofs.Facts.{and_true, or_false, all_append, all_wider, found_all, ascii_char, bytes_eq-true, is_safe, safe_char}
 use Rattle.style_wash.proofs.ItemFacts.{quiet, BeginsDark, EndsDark, not_true}
 use Rattle.style_wash.proofs.Marks.{no_colon, no_mark}
@@ -76,6 +77,17 @@ silent_steps (step ∷ steps) good =
     quiet-append Outside (written_step step) (flat_map written_step steps)
     (quiet-append Outside (written_separator step.separator) (written_item step.item) (silent_separator step.separator) good.0.item.silent) (silent_steps steps good.1)
 
+calls_separator : (separator : Separator) → CallsOnlyRgb (written_separator separator)
+calls_separator Space = calls_none (32 ∷ []) refl
+calls_separator Comma = calls_none (44 ∷ 32 ∷ []) refl
+calls_separator Slash = calls_none (47 ∷ []) refl
+
+calls_steps : (steps : List Step) → AllByRecursion GoodStep steps → CallsOnlyRgb (flat_map written_step steps)
+calls_steps [] good = calls_none [] refl
+calls_steps (step ∷ steps) good =
+    calls-append (written_step step) (flat_map written_step steps)
+    (calls-append (written_separator step.separator) (written_item step.item) (calls_separator step.separator) good.0.item.calls) (calls_steps steps good.1)
+
 -- what a written value is like
 record IsWrittenValue (text : List ℕ) (value : Value) : Type 0 where
   reads : value_of text ≡ Some value
@@ -83,6 +95,7 @@ record IsWrittenValue (text : List ℕ) (value : Value) : Type 0 where
   ends : EndsDark text
   safe : list_all is_safe text ≡ true
   silent : quiet Outside text ≡ true
+  calls : CallsOnlyRgb text
 
 written_is : (value : Value) → GoodValue value → IsWrittenValue (written_value value) value
 written_is value good =
@@ -95,6 +108,7 @@ written_is value good =
       ends = ends_steps item value.more good.first.ends good.more;
       safe = all_append is_safe item rest good.first.safe (safe_steps value.more good.more);
       silent = quiet-append Outside item rest good.first.silent (silent_steps value.more good.more);
+      calls = calls-append item rest good.first.calls (calls_steps value.more good.more);
     }
 
 no_mark_at : (text : List ℕ) → list_all is_safe text ≡ true → position_or_len is_mark text ≡ length text
@@ -121,7 +135,7 @@ is_some_of (Some other) name = bytes_eq other name
 abbrev is_known : List ℕ → Bool
 is_known name =
     is_some_of (property_of name) name && is_some_of (property_of (32 ∷ name)) name
-    && list_all (λ c. not (is_colon c)) name && list_all is_safe name && quiet Outside name
+    && list_all (λ c. not (is_colon c)) name && list_all is_safe name && quiet Outside name && list_all is_no_bracket name
 
 known_properties : list_all is_known properties ≡ true
 unfolding properties property_of trimmed quiet
@@ -182,10 +196,12 @@ record IsKnown (name : List ℕ) : Type 0 where
   no_colon : list_all (λ c. not (is_colon c)) name ≡ true
   safe : list_all is_safe name ≡ true
   silent : quiet Outside name ≡ true
+  no_bracket : list_all is_no_bracket name ≡ true
 
 known_is : (name : List ℕ) → is_known name ≡ true → IsKnown name
 known_is name e =
-    let all = and_true (is_some_of (property_of name) name && is_some_of (property_of (32 ∷ name)) name && list_all (λ c. not (is_colon c)) name && list_all is_safe name) (quiet Outside name) e in
+    let six = and_true (is_some_of (property_of name) name && is_some_of (property_of (32 ∷ name)) name && list_all (λ c. not (is_colon c)) name && list_all is_safe name && quiet Outside name) (list_all is_no_bracket name) e in
+    let all = and_true (is_some_of (property_of name) name && is_some_of (property_of (32 ∷ name)) name && list_all (λ c. not (is_colon c)) name && list_all is_safe name) (quiet Outside name) six.0 in
     let four = and_true (is_some_of (property_of name) name && is_some_of (property_of (32 ∷ name)) name && list_all (λ c. not (is_colon c)) name) (list_all is_safe name) all.0 in
     let three = and_true (is_some_of (property_of name) name && is_some_of (property_of (32 ∷ name)) name) (list_all (λ c. not (is_colon c)) name) four.0 in
     let two = and_true (is_some_of (property_of name) name) (is_some_of (property_of (32 ∷ name)) name) three.0 in
@@ -195,6 +211,7 @@ known_is name e =
       no_colon = three.1;
       safe = four.1;
       silent = all.1;
+      no_bracket = six.1;
     }
 
 declaration_of-text : (front text property : List ℕ) (value : Value) → list_all (λ c. not (is_colon c)) front ≡ true → property_of front ≡ Some property
@@ -351,3 +368,26 @@ pub IsAscii-stylewash : (text : List ℕ) → IsAscii (stylewash text)
 IsAscii-stylewash text =
     IsAscii-from_all (stylewash text) (λ k d below.
     ltb-true _ 128 (ascii_char _ (AllPass-from_list_all is_style_char (stylewash text) (washed_characters text) k d below)))
+
+-- ---- functions
+
+calls_written : (d : Declaration) → IsGoodDeclaration d → CallsOnlyRgb (written d)
+calls_written d good =
+    subst CallsOnlyRgb (sym (written-text d))
+    (calls-append d.property (58 ∷ 32 ∷ written_value d.value) (calls_none d.property (known_is d.property good.property).no_bracket)
+    (calls-append (58 ∷ 32 ∷ []) (written_value d.value) (calls_none (58 ∷ 32 ∷ []) refl) (written_is d.value good.value).calls))
+
+calls_more : (all : List Declaration) → AllByRecursion IsGoodDeclaration all → CallsOnlyRgb (flat_map (λ d. codes "; " ++ written d) all)
+calls_more [] good = calls_none [] refl
+calls_more (d ∷ all) good =
+    calls-append (codes "; " ++ written d) (flat_map (λ d. codes "; " ++ written d) all)
+    (calls-append (codes "; ") (written d) (calls_none (codes "; ") refl) (calls_written d good.0)) (calls_more all good.1)
+
+calls_style : (all : List Declaration) → AllByRecursion IsGoodDeclaration all → CallsOnlyRgb (style_of all)
+unfolding style_of
+calls_style [] good = calls_none [] refl
+calls_style (d ∷ all) good = calls-append (written d) (flat_map (λ d. codes "; " ++ written d) all) (calls_written d good.0) (calls_more all good.1)
+
+pub washed_calls_only_rgb : (text : List ℕ) → calls_only_rgb 0 0 0 (stylewash text) ≡ true
+unfolding stylewash
+washed_calls_only_rgb text = (calls_style (declarations text) (good_declarations text)).whatever 0 0 0

@@ -1,5 +1,5 @@
 -- Declarations, and the styles that are made of them.
-use Rattle.std.specs.Prelude.{◌≡◌, ℕ, nat_le, ◌==◌, Bool, false, ◌||◌, if◌then◌else◌, List, [], ◌∷◌, ◌++◌, length, codes, map, IsTrue, Option, Some, None}
+use Rattle.std.specs.Prelude.{◌≡◌, ℕ, nat_le, ◌==◌, Bool, true, false, not, ◌&&◌, ◌||◌, if◌then◌else◌, List, [], ◌∷◌, ◌++◌, length, codes, map, IsTrue, Option, Some, None}
 use Rattle.std.specs.Str.{bytes_eq}
 use Rattle.std.specs.List.{filter_map, join_by, onto_first, position_or_len, before_first, after_first, list_all, AllByRecursion}
 use Rattle.style_wash.specs.Characters.{is_colon, is_mark, is_style_char, trimmed, without_back}
@@ -94,3 +94,12 @@ StylesAreKept =
 -- a washed style has no character beside these, so no `\`, `@`, `"`, `<`, `&`, `{` or `*`
 abbrev pub WashedCharacters : Type 0
 WashedCharacters = (text : List ℕ) → IsTrue (list_all is_style_char (stylewash text))
+
+-- Each `(` stands right after `rgb`. The three characters before the text are given.
+unfoldable pub calls_only_rgb : ℕ → ℕ → ℕ → List ℕ → Bool
+calls_only_rgb a b c [] = true
+calls_only_rgb a b c (d ∷ more) = (not (d == 40) || (a == 114 && b == 103 && c == 98)) && calls_only_rgb b c d more
+
+-- a washed style names no function but `rgb`, so no `url(` and no `expression(`
+abbrev pub WashedCallsOnlyRgb : Type 0
+WashedCallsOnlyRgb = (text : List ℕ) → IsTrue (calls_only_rgb 0 0 0 (stylewash text))

@@ -27,9 +27,9 @@ unfoldable pub is_number : List ℕ → Bool
 is_number text = is_decimal (before_first begins_unit text) && is_unit (drop (position_or_len begins_unit text) text)
 
 -- `#` and 3 or 6 hexadecimal digits
-abbrev pub is_colour : List ℕ → Bool
-is_colour [] = false
-is_colour (c ∷ digits) = (c == 35) && (length digits == 3 || length digits == 6) && list_all is_ascii_hexdigit digits
+abbrev pub is_hex_colour : List ℕ → Bool
+is_hex_colour [] = false
+is_hex_colour (c ∷ digits) = (c == 35) && (length digits == 3 || length digits == 6) && list_all is_ascii_hexdigit digits
 
 -- the number of three digits
 abbrev pub three_digits : ℕ → ℕ → ℕ → ℕ
@@ -66,7 +66,7 @@ is_name text = is_quote (slice_index text 0) && nat_le 3 (length text) && nat_le
 
 -- a word, a number or a colour
 unfoldable pub is_plain : List ℕ → Bool
-is_plain text = is_word text || is_number text || is_colour text || is_rgb text
+is_plain text = is_word text || is_number text || is_hex_colour text || is_rgb text
 
 -- An item: a word, a number or a colour, as it stands, or a quoted name without its quotes.
 pub data Item : Type 0 where

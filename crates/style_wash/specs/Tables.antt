@@ -4,6 +4,7 @@ use Rattle.std.specs.Str.{bytes_eq, str_eq_ignore_ascii_case}
 use Rattle.std.specs.List.{list_any}
 use Rattle.style_wash.specs.Characters.{trimmed}
 
+-- the forty properties
 unfoldable pub properties : List (List ℕ)
 properties =
     codes "background"
@@ -52,6 +53,7 @@ properties =
 unfoldable pub property_of : List ℕ → Option (List ℕ)
 property_of text = find (str_eq_ignore_ascii_case (trimmed text)) properties
 
+-- the units of numbers
 unfoldable pub units : List (List ℕ)
 units =
     codes "px"

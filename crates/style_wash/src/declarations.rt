@@ -5,7 +5,7 @@ ghost use Rattle.std.specs.Str.{IsAscii};
 ghost use Rattle.std.specs.String.{string_bytes};
 ghost use Rattle.style_wash.specs.Characters.{is_style_char, trimmed};
 ghost use Rattle.style_wash.specs.Cuts.{property_onto, with_declaration};
-ghost use Rattle.style_wash.specs.Declarations.{IsStyle, declaration_of, declaration_with, ends_piece, pieces, stylewash, value_after_colon};
+ghost use Rattle.style_wash.specs.Declarations.{IsStyle, calls_only_rgb, declaration_of, declaration_with, ends_piece, pieces, stylewash, value_after_colon};
 ghost use Rattle.style_wash.specs.Seen.{place_seen};
 ghost use Rattle.style_wash.specs.Tables.{property_of};
 ghost use Rattle.style_wash.specs.Values.{value_of};
@@ -26,6 +26,7 @@ pub fn wash_style(alloc: Global, text: &str) -> Result<String, Memory>
     ensures style { IfOk result (λ style. IsStyle (string_bytes style)) }
     ensures settled { IfOk result (λ style. stylewash (string_bytes style) ≡ string_bytes style) }
     ensures characters { IfOk result (λ style. IsTrue (list_all is_style_char (string_bytes style))) }
+    ensures functions { IfOk result (λ style. IsTrue (calls_only_rgb 0 0 0 (string_bytes style))) }
 {
     let mut style = Vec::new(alloc);
     let mut rest = text.as_bytes();

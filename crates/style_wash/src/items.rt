@@ -3,7 +3,7 @@ ghost use Rattle.std.specs.Char.{is_ascii_hexdigit};
 ghost use Rattle.std.specs.List.{list_all, position_or_len, slice_split};
 ghost use Rattle.std.specs.Prelude.{◌≡◌, ◌++◌, ◌≤◌, ◌<◌, ◌==◌, MatchOption, OnOk, Some, None, true, false, count_by, length};
 ghost use Rattle.style_wash.specs.Characters.{is_comma, is_digit, is_point, is_name_char, is_word_char};
-ghost use Rattle.style_wash.specs.Items.{are_levels, begins_unit, is_colour, is_decimal, inner, is_digits, is_level, is_name, is_number, is_plain, is_rgb, is_word, item_of, three_digits, written_item};
+ghost use Rattle.style_wash.specs.Items.{are_levels, begins_unit, is_hex_colour, is_decimal, inner, is_digits, is_level, is_name, is_number, is_plain, is_rgb, is_word, item_of, three_digits, written_item};
 ghost use Rattle.style_wash.specs.Seen.{item_seen};
 
 use crate::characters::{is_digit, is_letter, is_name_char, is_quote, is_word_char};
@@ -48,7 +48,7 @@ pub fn push_item(item: Item<'_>, written: &mut Vec<u8>) -> Result<(), Memory>
 fn is_plain(text: &[u8]) -> bool
     ensures { result ≡ is_plain text.now }
 {
-    is_word(text) || is_number(text) || is_colour(text) || is_rgb(text)
+    is_word(text) || is_number(text) || is_hex_colour(text) || is_rgb(text)
 }
 
 // A letter, and then letters, digits and `-`.
@@ -90,8 +90,8 @@ fn is_number(text: &[u8]) -> bool
 }
 
 // `#` and 3 or 6 hexadecimal digits.
-fn is_colour(text: &[u8]) -> bool
-    ensures { result ≡ is_colour text.now }
+fn is_hex_colour(text: &[u8]) -> bool
+    ensures { result ≡ is_hex_colour text.now }
 {
     match text {
         [c, digits @ ..] => {

@@ -1,5 +1,5 @@
 //! Laws of the definitions, each the contract of a function that does nothing.
-ghost use Rattle.style_wash.specs.Declarations.{StylesAreKept, WashedCharacters, WashedIsStyle, WashingIsIdempotent};
+ghost use Rattle.style_wash.specs.Declarations.{StylesAreKept, WashedCallsOnlyRgb, WashedCharacters, WashedIsStyle, WashingIsIdempotent};
 
 /// What a washed style is washed into is that style.
 pub fn washing_is_idempotent()
@@ -21,4 +21,9 @@ pub fn styles_are_kept()
 /// holds no escape, no comment and no at-rule.
 pub fn washed_characters()
     ensures { WashedCharacters }
+{}
+
+/// A washed style names no function but `rgb`, so it loads nothing by `url(` and runs nothing by `expression(`.
+pub fn washed_calls_only_rgb()
+    ensures { WashedCallsOnlyRgb }
 {}

@@ -1,11 +1,11 @@
 use Rattle.std.proofs.Common.{◌≡◌, ℕ, List, [], ◌∷◌, IsAscii, sym, ap, ◌∙◌, subst}
 use Rattle.std.specs.List.{filter_map, list_all}
-use Rattle.style_wash.specs.Declarations.{IsStyle, declaration_of, pieces, stylewash}
+use Rattle.style_wash.specs.Declarations.{IsStyle, calls_only_rgb, declaration_of, pieces, stylewash}
 use Rattle.style_wash.specs.Characters.{is_style_char}
 use Rattle.style_wash.specs.Cuts.{with_declaration}
 use Rattle.style_wash.specs.Values.Place.{Outside}
 use Rattle.style_wash.proofs.Pieces.{style_onto, style_onto-piece, washed_begins}
-use Rattle.style_wash.proofs.Styles.{IsAscii-stylewash, washed_characters, washed_is_style, washing_is_idempotent}
+use Rattle.style_wash.proofs.Styles.{IsAscii-stylewash, washed_calls_only_rgb, washed_characters, washed_is_style, washing_is_idempotent}
 use Rattle.style_wash.proofs.declarations.wash_style.Goals as goal
 
 pub loop-piece-init : goal.loop-piece-init
@@ -41,3 +41,8 @@ pub returns-clause-characters : goal.returns-clause-characters
 returns-clause-characters c =
     let all = c.text_of.ensures ∙ whole _ _ _ c.args.text.now c.in_default.ensures c.in_ok-push_declaration-2.ensures c.loop-piece.invariant in
     ap (list_all is_style_char) all ∙ washed_characters c.args.text.now
+
+pub returns-clause-functions : goal.returns-clause-functions
+returns-clause-functions c =
+    let all = c.text_of.ensures ∙ whole _ _ _ c.args.text.now c.in_default.ensures c.in_ok-push_declaration-2.ensures c.loop-piece.invariant in
+    ap (calls_only_rgb 0 0 0) all ∙ washed_calls_only_rgb c.args.text.now
