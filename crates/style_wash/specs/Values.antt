@@ -1,0 +1,117 @@
+-- Values: items with separators between them.
+use Rattle.std.specs.Prelude.{ℕ, zero, suc, ◌==◌, Bool, true, false, ◌&&◌, if◌then◌else◌, List, [], ◌∷◌, ◌++◌, Option, Some, None}
+use Rattle.std.specs.List.{flat_map}
+use Rattle.style_wash.specs.Characters.{is_quote, is_separator, trimmed}
+use Rattle.style_wash.specs.Items.{Item, item_of, written_item}
+
+-- ---- quotes and brackets
+
+-- Where a character stands: outside of quotes and brackets, or inside, up to the character that ends it.
+pub data Place : Type 0 where
+  Outside : Place
+  Until : ℕ → Place
+
+-- the place after a character that stands outside. Brackets count only where it is said
+abbrev pub opened : Bool → ℕ → Place
+opened brackets c = if is_quote c then Until c else if brackets && (c == 40) then Until 41 else Outside
+
+abbrev pub place_after : Bool → Place → ℕ → Place
+place_after brackets Outside c = opened brackets c
+place_after brackets (Until end) c = if c == end then Outside else Until end
+
+-- ---- the texts of items, and the gaps between them
+
+-- a gap, and the text up to the next gap
+pub record Gapped : Type 0 where
+  pub gap : List ℕ
+  pub text : List ℕ
+
+-- a text cut into gaps and texts that have none
+pub record Parts : Type 0 where
+  pub first : List ℕ
+  pub more : List Gapped
+
+-- a text with one more character at its front
+abbrev pub with_text : ℕ → Parts → Parts
+with_text c parts = record { first = c ∷ parts.first; more = parts.more }
+
+-- a gap with one more character at its front, or a new one
+abbrev pub with_gap : ℕ → List ℕ → List Gapped → Parts
+with_gap c [] [] = record { first = []; more = record { gap = c ∷ []; text = [] } ∷ [] }
+with_gap c [] (next ∷ more) = record { first = []; more = record { gap = c ∷ next.gap; text = next.text } ∷ more }
+with_gap c (d ∷ text) more = record { first = []; more = record { gap = c ∷ []; text = d ∷ text } ∷ more }
+
+-- white space, `,` and `/` separate items outside of quotes and brackets
+abbrev pub separates : Place → ℕ → Bool
+separates Outside c = is_separator c
+separates (Until end) c = false
+
+abbrev pub parts_on : Bool → ℕ → Parts → Parts → Parts
+parts_on separating c after within =
+    if separating then with_gap c after.first after.more else with_text c within
+
+-- the parts of a text that begins at a place
+unfoldable pub parts : Place → List ℕ → Parts
+parts place [] = record { first = []; more = [] }
+parts place (c ∷ more) = parts_on (separates place c) c (parts Outside more) (parts (place_after true place c) more)
+
+-- ---- values
+
+pub data Separator : Type 0 where
+  Space : Separator
+  Comma : Separator
+  Slash : Separator
+
+abbrev pub separator_in : List ℕ → Option Separator
+separator_in [] = Some Space
+separator_in (c ∷ []) = if c == 44 then Some Comma else if c == 47 then Some Slash else None
+separator_in (c ∷ d ∷ more) = None
+
+-- the separator that a gap is: white space alone, or one `,` or one `/` with white space around
+unfoldable pub separator_of : List ℕ → Option Separator
+separator_of gap = separator_in (trimmed gap)
+
+abbrev pub written_separator : Separator → List ℕ
+written_separator Space = 32 ∷ []
+written_separator Comma = 44 ∷ 32 ∷ []
+written_separator Slash = 47 ∷ []
+
+-- an item with the separator before it
+pub record Step : Type 0 where
+  pub separator : Separator
+  pub item : Item
+
+pub record Value : Type 0 where
+  pub first : Item
+  pub more : List Step
+
+abbrev pub step_onto : Option Separator → Option Item → Option (List Step) → Option (List Step)
+step_onto (Some separator) (Some item) (Some more) = Some (record { separator = separator; item = item } ∷ more)
+step_onto (Some separator) (Some item) None = None
+step_onto (Some separator) None more = None
+step_onto None item more = None
+
+-- the items after the first, of which there are so many at most
+unfoldable pub steps_of : ℕ → List Gapped → Option (List Step)
+steps_of n [] = Some []
+steps_of zero (part ∷ more) = None
+steps_of (suc n) (part ∷ more) = step_onto (separator_of part.gap) (item_of part.text) (steps_of n more)
+
+abbrev pub value_onto : Option Item → Option (List Step) → Option Value
+value_onto (Some first) (Some more) = Some (record { first = first; more = more })
+value_onto (Some first) None = None
+value_onto None more = None
+
+-- the value that parts are, with so many items after the first at most
+unfoldable pub value_in : ℕ → Parts → Option Value
+value_in n parts = value_onto (item_of parts.first) (steps_of n parts.more)
+
+-- the value that a text without white space around is: 1 to 16 items
+unfoldable pub value_of : List ℕ → Option Value
+value_of text = value_in 15 (parts Outside text)
+
+abbrev pub written_step : Step → List ℕ
+written_step step = written_separator step.separator ++ written_item step.item
+
+abbrev pub written_value : Value → List ℕ
+written_value value = written_item value.first ++ flat_map written_step value.more
