@@ -1,5 +1,5 @@
 -- Washing a washed style changes nothing.
-use Rattle.std.proofs.Common.{◌≡◌, ℕ, ◌+◌, ◌-◌, Bool, true, false, not, ◌&&◌, ◌||◌, ◌==◌, cond, List, [], ◌∷◌, ◌++◌, length, map, take, drop, Option, Some, None, refl, sym, subst, ap, ◌∙◌, arith, append_assoc}
+use Rattle.std.proofs.Common.{◌≡◌, ℕ, ◌+◌, ◌-◌, Bool, true, false, not, ◌&&◌, ◌||◌, ◌==◌, cond, List, [], ◌∷◌, ◌++◌, length, map, take, drop, Option, Some, None, eq-eqb, refl, sym, subst, ap, ◌∙◌, arith, append_assoc}
 use Rattle.std.specs.Prelude.{codes}
 use Rattle.std.specs.Str.{bytes_eq, IsAscii}
 use Rattle.std.specs.List.{list_all, filter_map, cons_option, flat_map, onto_first, position_or_len, prefix_len, suffix_len, before_first, after_first, AllByRecursion}
@@ -14,7 +14,7 @@ use Rattle.style_wash.specs.Tables.{properties, property_of}
 use Rattle.style_wash.specs.Values.{Place, Separator, Step, Value, place_after, value_of, written_separator, written_step, written_value}
 use Rattle.style_wash.specs.Values.Place.{Outside, Until}
 use Rattle.style_wash.specs.Values.Separator.{Space, Comma, Slash}
-use Rattle.style_wash.specs.Declarations.{Declaration, IsDeclaration, IsStyle, calls_only_rgb, declaration_of, declaration_with, declarations, ends_piece, ends_well, pieces, style_of, style_pieces, stylewash, value_after_colon, written}
+use Rattle.style_wash.specs.Declarations.{Declaration, IsDeclaration, IsStyle, is_style, calls_only_rgb, declaration_of, declaration_with, declarations, ends_piece, ends_well, pieces, style_of, style_pieces, stylewash, value_after_colon, written}
 use Rattle.style_wash.proofs.Calls.{CallsOnlyRgb, calls-append, calls_none, is_no_bracket}
 use Rattle.style_wash.proofs.Facts.{and_true, or_false, all_append, all_wider, found_all, ascii_char, bytes_eq-true, is_safe, safe_char}
 use Rattle.style_wash.proofs.ItemFacts.{quiet, BeginsDark, EndsDark, not_true}
@@ -391,3 +391,21 @@ calls_style (d ∷ all) good = calls-append (written d) (flat_map (λ d. codes "
 pub washed_calls_only_rgb : (text : List ℕ) → calls_only_rgb 0 0 0 (stylewash text) ≡ true
 unfolding stylewash
 washed_calls_only_rgb text = (calls_style (declarations text) (good_declarations text)).whatever 0 0 0
+
+-- ---- the test of a style
+
+same_text : (text : List ℕ) → bytes_eq text text ≡ true
+same_text [] = refl
+same_text (c ∷ more) = rw (eq-eqb c c refl, same_text more) refl
+
+stays : (text : List ℕ) (all : List Declaration) → AllByRecursion IsDeclaration all → text ≡ style_of all → stylewash text ≡ text
+unfolding stylewash
+stays text all each is =
+    ap (λ (xs : List ℕ). style_of (declarations xs)) is ∙ ap style_of (styles_are_kept all each).1 ∙ sym is
+
+pub styles_are_settled : (text : List ℕ) → (IsStyle text → is_style text ≡ true) × (is_style text ≡ true → IsStyle text)
+unfolding is_style
+styles_are_settled text = (
+  λ style. ap (λ (xs : List ℕ). bytes_eq xs text) (stays text style.all style.each style.is) ∙ same_text text,
+  λ same. subst IsStyle (bytes_eq-true (stylewash text) text same) (washed_is_style text),
+)

@@ -72,6 +72,10 @@ pub record IsStyle (text : List ℕ) : Type 0 where
   pub each : AllByRecursion IsDeclaration all
   pub is : text ≡ style_of all
 
+-- a text is what it is washed into: the same as a test
+unfoldable pub is_style : List ℕ → Bool
+is_style text = bytes_eq (stylewash text) text
+
 -- the written forms of declarations as the pieces of their style: each but the first stands after a space
 unfoldable pub style_pieces : List Declaration → List (List ℕ)
 style_pieces [] = [] ∷ []
@@ -90,6 +94,10 @@ abbrev pub StylesAreKept : Type 0
 StylesAreKept =
     (all : List Declaration) → AllByRecursion IsDeclaration all
     → (pieces Outside (style_of all) ≡ style_pieces all) × (declarations (style_of all) ≡ all)
+
+-- the styles are exactly the texts that washing leaves as they are
+abbrev pub StylesAreSettled : Type 0
+StylesAreSettled = (text : List ℕ) → (IsStyle text → IsTrue (is_style text)) × (IsTrue (is_style text) → IsStyle text)
 
 -- a washed style has no character beside these, so no `\`, `@`, `"`, `<`, `&`, `{` or `*`
 abbrev pub WashedCharacters : Type 0

@@ -1,5 +1,5 @@
 //! Laws of the definitions, each the contract of a function that does nothing.
-ghost use Rattle.style_wash.specs.Declarations.{StylesAreKept, WashedCallsOnlyRgb, WashedCharacters, WashedIsStyle, WashingIsIdempotent};
+ghost use Rattle.style_wash.specs.Declarations.{StylesAreKept, StylesAreSettled, WashedCallsOnlyRgb, WashedCharacters, WashedIsStyle, WashingIsIdempotent};
 
 /// What a washed style is washed into is that style.
 pub fn washing_is_idempotent()
@@ -15,6 +15,11 @@ pub fn washed_is_style()
 /// drops none, adds none and changes none.
 pub fn styles_are_kept()
     ensures { StylesAreKept }
+{}
+
+/// The styles are exactly the texts that washing leaves as they are.
+pub fn styles_are_settled()
+    ensures { StylesAreSettled }
 {}
 
 /// A washed style has letters, digits, spaces and a few marks of its own: it can't end the attribute that it stands in, and
