@@ -1,0 +1,8 @@
+use Rattle.std.proofs.Common.{◌∙◌, ◌∷◌, decimal}
+use Rattle.imap_commands.specs.Pieces.Part.{Words}
+use Rattle.imap_commands.proofs.writing.write_expunge.Goals as goal
+
+pub returns : goal.returns
+returns c = λ more.
+    c.in_ok-small.ensures more
+    ∙ c.in_ok-words.ensures (Words (decimal c.args.uid) ∷ more)

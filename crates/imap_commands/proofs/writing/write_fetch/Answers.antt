@@ -1,0 +1,9 @@
+use Rattle.std.proofs.Common.{◌∙◌, ◌∷◌, decimal}
+use Rattle.imap_commands.specs.Pieces.Part.{Words}
+use Rattle.imap_commands.proofs.writing.write_fetch.Goals as goal
+
+pub returns : goal.returns
+returns c = λ more.
+    c.in_ok-words-2.ensures more
+    ∙ c.in_ok-small.ensures (Words (c.args.items.now) ∷ more)
+    ∙ c.in_ok-words.ensures (Words (decimal c.args.from) ∷ Words (c.args.items.now) ∷ more)

@@ -1,0 +1,11 @@
+use Rattle.std.proofs.Common.{◌∙◌, ◌∷◌, codes, decimal}
+use Rattle.imap_commands.specs.Pieces.Part.{Words}
+use Rattle.imap_commands.proofs.writing.write_resync.Goals as goal
+
+pub returns : goal.returns
+returns c = λ more.
+    c.in_ok-words-3.ensures more
+    ∙ c.in_ok-number.ensures (Words (codes "))") ∷ more)
+    ∙ c.in_ok-words-2.ensures (Words (decimal c.args.known.now.mark) ∷ Words (codes "))") ∷ more)
+    ∙ c.in_ok-small.ensures (Words (codes " ") ∷ Words (decimal c.args.known.now.mark) ∷ Words (codes "))") ∷ more)
+    ∙ c.in_ok-words.ensures (Words (decimal c.args.known.now.validity) ∷ Words (codes " ") ∷ Words (decimal c.args.known.now.mark) ∷ Words (codes "))") ∷ more)

@@ -1,0 +1,50 @@
+-- How a command is said in pieces (RFC 9051, section 4.3).
+use Rattle.std.specs.Prelude.{ℕ, Bool, ◌==◌, ◌&&◌, ◌||◌, nat_le, if◌then◌else◌, List, [], ◌∷◌, ◌++◌, length, codes, decimal}
+use Rattle.std.specs.List.{list_all, flat_map}
+
+-- a part of a command: words as they stand, a string, or a literal
+pub data Part : Type 0 where
+  Words : List ℕ → Part
+  Text : List ℕ → Part
+  Literal : List ℕ → Part
+
+-- bytes that stand in a quoted string: printable ASCII and the space
+abbrev pub is_plain : ℕ → Bool
+is_plain b = nat_le 32 b && nat_le b 126
+
+-- a string is quoted where all its bytes are such, and at most 1,000; else it is a literal
+abbrev pub is_quotable : List ℕ → Bool
+is_quotable text = nat_le (length text) 1000 && list_all is_plain text
+
+-- `\` stands before each `"` and each `\`
+abbrev pub quoted_byte : ℕ → List ℕ
+quoted_byte b = if b == 34 || b == 92 then 92 ∷ b ∷ [] else b ∷ []
+
+abbrev pub quoted : List ℕ → List ℕ
+quoted text = 34 ∷ flat_map quoted_byte text ++ 34 ∷ []
+
+abbrev pub line_end : List ℕ
+line_end = 13 ∷ 10 ∷ []
+
+-- how many bytes a literal has: the end of the piece before it
+abbrev pub announced : ℕ → List ℕ
+announced size = codes "{" ++ decimal size ++ codes "}" ++ line_end
+
+-- bytes before the first of some pieces
+abbrev pub onto_first : List ℕ → List (List ℕ) → List (List ℕ)
+onto_first bytes [] = bytes ∷ []
+onto_first bytes (first ∷ more) = (bytes ++ first) ∷ more
+
+-- a literal begins a piece of its own: it is said when the server has asked for it
+abbrev pub literal_before : List ℕ → List (List ℕ) → List (List ℕ)
+literal_before text pieces = announced (length text) ∷ onto_first text pieces
+
+abbrev pub text_before : List ℕ → List (List ℕ) → List (List ℕ)
+text_before text pieces = if is_quotable text then onto_first (quoted text) pieces else literal_before text pieces
+
+-- the pieces of the parts of a command
+unfoldable pub pieces_of : List Part → List (List ℕ)
+pieces_of [] = line_end ∷ []
+pieces_of (Words words ∷ more) = onto_first words (pieces_of more)
+pieces_of (Text text ∷ more) = text_before text (pieces_of more)
+pieces_of (Literal text ∷ more) = literal_before text (pieces_of more)

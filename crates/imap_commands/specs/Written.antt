@@ -1,0 +1,16 @@
+-- The pieces of a command while they are written.
+use Rattle.std.specs.Prelude.{◌≡◌, ℕ, List, ◌∷◌, ◌++◌, map}
+use Rattle.imap_commands.specs.declared.pieces.Pieces.{Pieces}
+use Rattle.imap_commands.specs.Pieces.{Part, pieces_of, onto_first}
+
+-- the pieces so far, with more parts to come
+abbrev pub written : Pieces → List Part → List (List ℕ)
+written p more = map (λ piece. piece.items) p.whole.items ++ onto_first p.last.items (pieces_of more)
+
+-- a part was added
+abbrev pub Goes : Pieces → Pieces → Part → Type 0
+Goes before after part = (more : List Part) → written after more ≡ written before (part ∷ more)
+
+-- these parts were added
+abbrev pub GoesBy : Pieces → Pieces → List Part → Type 0
+GoesBy before after parts = (more : List Part) → written after more ≡ written before (parts ++ more)

@@ -1,0 +1,144 @@
+//! Writes the pieces of a command one part after the other.
+ghost use Rattle.std.specs.Prelude.{◌≡◌, ◌++◌, ◌∷◌, [], List, ℕ, map, IfOk, OnOk, decimal};
+ghost use Rattle.std.specs.List.{list_all, flat_map};
+ghost use Rattle.imap_commands.specs.Pieces.{Part, pieces_of, is_plain, is_quotable, quoted, quoted_byte, announced};
+ghost use Rattle.imap_commands.specs.Pieces.Part.{Words, Text as Str, Literal};
+ghost use Rattle.imap_commands.specs.Written.{written, Goes};
+
+use itoa::Buffer;
+use std::alloc::{AllocError as Memory, Global};
+
+/// The most bytes of a quoted string.
+const QUOTED: usize = 1_000;
+
+/// The pieces so far: those that are whole, and the one that is being written.
+#[derive(Drop)]
+pub struct Pieces {
+    whole: Vec<Vec<u8>>,
+    last: Vec<u8>,
+}
+
+impl Pieces {
+    #[tactic(auto, using(crate::proofs::PieceLemmas::nothing_before))]
+    pub fn new(alloc: Global) -> Self
+        ensures { (more : List Part) → written result more ≡ pieces_of more }
+    {
+        Pieces {
+            whole: Vec::new(alloc),
+            last: Vec::new(alloc),
+        }
+    }
+
+    /// Adds words as they stand.
+    #[tactic(auto, using(crate::proofs::PieceLemmas::words_go))]
+    pub fn words(&mut self, words: &str) -> Result<(), Memory>
+        ensures { OnOk result (Goes self.old self.new (Words words.now)) }
+    {
+        self.last.extend_from_slice(words.as_bytes())
+    }
+
+    /// Adds a number in decimal.
+    pub fn number(&mut self, number: u64) -> Result<(), Memory>
+        ensures { OnOk result (Goes self.old self.new (Words (decimal number))) }
+    {
+        self.words(Buffer::new().format(number))
+    }
+
+    /// Adds a number of 32 bits in decimal.
+    pub fn small(&mut self, number: u32) -> Result<(), Memory>
+        ensures { OnOk result (Goes self.old self.new (Words (decimal number))) }
+    {
+        self.number(u64::from(number))
+    }
+
+    /// Adds a string: quoted, or as a literal where it can't be quoted.
+    #[tactic(auto, unfolding(crate::specs::Pieces::pieces_of))]
+    pub fn text(&mut self, alloc: Global, text: &str) -> Result<(), Memory>
+        ensures { OnOk result (Goes self.old self.new (Str text.now)) }
+    {
+        if is_quotable(text.as_bytes()) {
+            self.quoted(text.as_bytes())
+        } else {
+            self.literal(alloc, text.as_bytes())
+        }
+    }
+
+    #[tactic(auto, using(crate::proofs::PieceLemmas::words_go))]
+    fn quoted(&mut self, text: &[u8]) -> Result<(), Memory>
+        ensures { OnOk result (Goes self.old self.new (Words (quoted text.now))) }
+    {
+        push_quoted(&mut self.last, text)
+    }
+
+    /// Ends the piece by the size of a literal, and begins the next with its bytes.
+    #[tactic(auto, using(crate::proofs::PieceLemmas::literal_goes))]
+    pub fn literal(&mut self, alloc: Global, bytes: &[u8]) -> Result<(), Memory>
+        ensures { OnOk result (Goes self.old self.new (Literal bytes.now)) }
+    {
+        announce(&mut self.last, bytes.len())?;
+        let next = Vec::from_slice(alloc, bytes)?;
+        self.whole.push(std::mem::replace(&mut self.last, next))?;
+        Ok(())
+    }
+
+    /// Ends the last piece.
+    #[tactic(auto, using(crate::proofs::PieceLemmas::ends))]
+    pub fn finish(self) -> Result<Vec<Vec<u8>>, Memory>
+        ensures { IfOk result (λ pieces. map (λ p. p.items) pieces.items ≡ written self []) }
+    {
+        let mut last = self.last;
+        last.extend_from_slice(b"\r\n")?;
+        let mut whole = self.whole;
+        whole.push(last)?;
+        Ok(whole)
+    }
+}
+
+/// Says how many bytes a literal has.
+fn announce(piece: &mut Vec<u8>, size: usize) -> Result<(), Memory>
+    ensures { OnOk result (piece.new.items ≡ piece.old.items ++ announced size) }
+{
+    piece.push(b'{')?;
+    piece.extend_from_slice(Buffer::new().format(size).as_bytes())?;
+    piece.extend_from_slice(b"}\r\n")
+}
+
+fn is_quotable(text: &[u8]) -> bool
+    ensures { result ≡ is_quotable text.now }
+{
+    text.len() <= QUOTED && is_plain(text)
+}
+
+fn is_plain(text: &[u8]) -> bool
+    ensures { result ≡ list_all is_plain text.now }
+{
+    text.iter().all(|b| *b >= 32 && *b <= 126)
+}
+
+fn push_quoted(bytes: &mut Vec<u8>, text: &[u8]) -> Result<(), Memory>
+    ensures { OnOk result (bytes.new.items ≡ bytes.old.items ++ quoted text.now) }
+{
+    bytes.push(b'"')?;
+    push_escaped(bytes, text)?;
+    bytes.push(b'"')?;
+    Ok(())
+}
+
+fn push_escaped(bytes: &mut Vec<u8>, text: &[u8]) -> Result<(), Memory>
+    ensures { OnOk result (bytes.new.items ≡ bytes.old.items ++ flat_map quoted_byte text.now) }
+{
+    for byte in text {
+        push_quoted_byte(bytes, *byte)?;
+    }
+    Ok(())
+}
+
+fn push_quoted_byte(bytes: &mut Vec<u8>, byte: u8) -> Result<(), Memory>
+    ensures { OnOk result (bytes.new.items ≡ bytes.old.items ++ quoted_byte byte) }
+{
+    if byte == b'"' || byte == b'\\' {
+        bytes.push(b'\\')?;
+    }
+    bytes.push(byte)?;
+    Ok(())
+}
