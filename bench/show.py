@@ -109,13 +109,11 @@ def main():
             ("plain text beside Python", seconds["plain text", LARGE] / seconds["plain text", "python"], 2),
             ("less-than signs beside Python", seconds["less-than signs", LARGE] / seconds["less-than signs", "python"], 1),
         ]
-        for name in ("header lines", "lines that are no field", "one folded field"):
+        for name in ("header lines", "short header lines", "lines that are no field", "one folded field"):
             bounds.append((f"{name} beside plain text", seconds[name, LARGE] / seconds["plain text", LARGE], 3))
         for name in SHAPES:
-            # a shape that fills much memory pays more for each page of it when there is more; one that is quadratic would show 100
-            most = 12 if name in ("plain text", "less-than signs", "header lines", "one folded field") else 20
-            bounds.append((f"{name}: growth of time", seconds[name, LARGE] / max(seconds[name, SMALL], 0.001), most))
-            bounds.append((f"{name}: memory", seconds[name, "peak"], 10 if name in ("less-than signs", "bytes that are no UTF-8") else 5))
+            bounds.append((f"{name}: growth of time", seconds[name, LARGE] / max(seconds[name, SMALL], 0.001), 12))
+            bounds.append((f"{name}: memory", seconds[name, "peak"], 10 if name == "less-than signs" else 5))
         for name, got, most in bounds:
             mark = "" if got <= most else "   PAST THE BOUND"
             print(f"{name:45} {got:6.2f} of {most}{mark}")
