@@ -230,7 +230,7 @@ fn shows_parts(rt: HostRuntime) -> Result<(), Fail> {
             "<li><a href=\"/part/0/0/1?f=\">1</a> text/plain 16</li>",
         ),
         (
-            ["show"].as_slice(),
+            ["show", "--part", "1"].as_slice(),
             b"Content-Type: text/plain; charset=koi8-r\r\n\r\nx".as_slice(),
             "(no subject)",
             "",
