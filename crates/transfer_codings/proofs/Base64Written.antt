@@ -1,12 +1,10 @@
 -- What the base64 text of bytes decodes to, and how long its lines are.
-use Rattle.std.proofs.Common.{◌≡◌, ℕ, zero, suc, ◌+◌, ◌-◌, ◌*◌, ◌/◌, ◌%◌, min, ◌<◌, ◌≤◌, ◌==◌, ◌⊎◌, Bool, true, false, not, cond, ◌&&◌, List, [], ◌∷◌, ◌++◌, length, get_or, set, take, drop, replicate, slice_index, Option, Some, None, refl, sym, ap, ◌∙◌, inl, inr, arith}
-use Rattle.std.specs.List.{All, before_first, cons_option, flat_map, range_with_len}
+use Rattle.std.proofs.Common.{◌≡◌, ℕ, zero, suc, ◌+◌, ◌-◌, ◌*◌, ◌/◌, ◌%◌, min, ◌<◌, ◌≤◌, ◌==◌, ◌⊎◌, Bool, true, false, not, cond, ◌&&◌, List, [], ◌∷◌, ◌++◌, length, get_or, take, drop, replicate, slice_index, Option, Some, None, refl, sym, ap, ◌∙◌, inl, inr, arith}
+use Rattle.std.specs.List.{All, before_first, cons_option}
 use Rattle.std.specs.Str.Lines.{lines}
 use Rattle.std.proofs.lemmas.Bool.{and_parts, cases_lt, eqb-true, not-true}
-use Rattle.std.proofs.lemmas.List.{append-nil, append_assoc, drop_all, drop-drop, get_or_past, get_or-drop, get_or-take, length-append, length-drop, length-replicate, length-take, map-id, take-append-drop, take_at, take_min}
-use Rattle.std.proofs.lemmas.List.Concat.{flat_map-append}
+use Rattle.std.proofs.lemmas.List.{append-nil, append_assoc, drop_all, drop-drop, get_or_past, get_or-drop, get_or-take, length-append, length-drop, length-replicate, length-take, take-append-drop}
 use Rattle.std.proofs.lemmas.List.Elements.{All-append, All-cons, All-nil, All-replicate, All-same}
-use Rattle.std.proofs.lemmas.List.FromFn.{map-range_with_len_more}
 use Rattle.std.proofs.lemmas.List.Sums.{take_while-cons}
 use Rattle.base64.specs.Engines.{standard}
 use Rattle.base64.specs.GeneralPurpose.{IsBytes, encode_of}
@@ -17,7 +15,6 @@ use Rattle.base64.proofs.Tables.{all_below_at}
 use Rattle.transfer_codings.specs.Base64.{alphabet, base64_line, base64_lines, bytes_of, is_equals, line_piece, sextet_of, sextets}
 use Rattle.transfer_codings.specs.Quoted.{is_line_feed}
 use Rattle.transfer_codings.proofs.Lines.{lines-break}
-use Rattle.transfer_codings.proofs.Places.{take-set-two}
 
 -- ---- the characters of the alphabet
 
@@ -218,15 +215,6 @@ pub length-encoding : (m : List ℕ) → length (encode_of standard m) ≡ unpad
 length-encoding m =
     omega (arith, length-append (encode_symbols alphabet m) (replicate (padding_len (length m)) 61), length-encode_symbols alphabet m, length-replicate {A = ℕ} (padding_len (length m)) 61)
 
-pub base64_line-written : (piece out old : List ℕ) (size : ℕ) → out ≡ encode_of standard piece ++ old
-    → size ≡ length (encode_of standard piece) → size + 1 < length out
-    → take (size + 2) (set (set out size 13) (size + 1) 10) ≡ base64_line piece
-unfolding base64_line
-base64_line-written piece out old size written e room =
-    take-set-two out size 13 10 room
-    ∙ ap (λ xs. take size xs ++ 13 ∷ 10 ∷ []) written
-    ∙ ap (λ xs. xs ++ 13 ∷ 10 ∷ []) (take_at (encode_of standard piece) old size (sym e))
-
 -- ---- all lines
 
 IsBytes-piece : (bytes : List ℕ) (number : ℕ) → IsBytes bytes → IsBytes (line_piece bytes number)
@@ -278,27 +266,3 @@ base64_lines-short bytes first (suc count) are =
     ap lines (append_assoc (encode_of standard piece) (13 ∷ 10 ∷ []) rest)
     ∙ lines-break (encode_of standard piece) rest (encoding-plain piece (IsBytes-piece bytes first are)) in
     All-same short _ _ split (All-cons short (encode_of standard piece) (lines rest) (omega (arith, length-encoding piece)) (base64_lines-short bytes (first + 1) count are))
-
-range_more : (count : ℕ) → range_with_len 0 (count + 1) ≡ range_with_len 0 count ++ count ∷ []
-range_more count =
-    let e = map-range_with_len_more (λ n. n) 0 count count (omega arith) in
-    sym (map-id (range_with_len 0 (count + 1))) ∙ e ∙ ap (λ xs. xs ++ count ∷ []) (map-id (range_with_len 0 count))
-
-pub base64_lines-more : (bytes : List ℕ) (count : ℕ) → base64_lines bytes 0 (count + 1) ≡ base64_lines bytes 0 count ++ base64_line (line_piece bytes count)
-unfolding base64_lines
-base64_lines-more bytes count =
-    let f : ℕ → List ℕ = λ number. base64_line (line_piece bytes number) in
-    ap (flat_map f) (range_more count)
-    ∙ flat_map-append f (range_with_len 0 count) (count ∷ [])
-    ∙ ap (λ xs. flat_map f (range_with_len 0 count) ++ xs) (append-nil (f count))
-
-pub base64_lines-none : (bytes : List ℕ) → base64_lines bytes 0 0 ≡ []
-unfolding base64_lines
-base64_lines-none bytes = refl
-
-pub line_piece-is : (bytes : List ℕ) (number end : ℕ) → end ≡ min (57 * number + 57) (length bytes)
-    → take (end - 57 * number) (drop (57 * number) bytes) ≡ line_piece bytes number
-line_piece-is bytes number end e =
-    let rest = drop (57 * number) bytes in
-    let size : end - 57 * number ≡ min 57 (length rest) = omega (arith, length-drop (57 * number) bytes) in
-    ap (λ n. take n rest) size ∙ take_min 57 rest

@@ -1,10 +1,10 @@
 //! Base64 (RFC 4648 §4).
 
-ghost use Rattle.std.specs.Prelude.{◌≡◌, ◌∷◌, ◌++◌, [], ◌+◌, ◌*◌, ◌≤◌, ◌<◌, MatchOption, IfOk, OnOk, length, take};
+ghost use Rattle.std.specs.Prelude.{◌≡◌, ◌∷◌, ◌++◌, [], ◌+◌, ◌*◌, ◌/◌, ◌≤◌, ◌<◌, MatchOption, IfOk, OnOk, length, take};
 ghost use Rattle.std.specs.List.{All, before_first};
 ghost use Rattle.std.specs.Str.{IsAscii};
 ghost use Rattle.std.specs.Str.Lines.{lines};
-ghost use Rattle.transfer_codings.specs.Base64.{HasFour, base64_bytes, base64_line, base64_text, bytes_of, is_equals, sextet_of, sextets};
+ghost use Rattle.transfer_codings.specs.Base64.{HasFour, base64_bytes, base64_lines, base64_text, bytes_of, is_equals, sextet_of, sextets};
 
 use base64::engine::general_purpose::STANDARD;
 use memchr::memchr;
@@ -48,26 +48,45 @@ pub fn encode_base64(alloc: Global, bytes: &[u8]) -> Result<Vec<u8>, Memory>
 {
     let count = bytes.len().div_ceil(57);
     let mut text = Vec::with_capacity(alloc, 78 * count)?;
-    for number in 0..count {
-        let start = 57 * number;
-        let end = (start + 57).min(bytes.len());
-        push_line(&bytes[start..end], &mut text)?;
+    for block in 0..count.div_ceil(BLOCK) {
+        let first = BLOCK * block;
+        push_lines(bytes, first, BLOCK.min(count - first), &mut text)?;
     }
     Ok(text)
 }
 
-// Adds a line of the base64 text.
-fn push_line(piece: &[u8], text: &mut Vec<u8>) -> Result<(), Memory>
-    requires { length piece.now ≤ 57 }
-    ensures ok { OnOk result (text.new.items ≡ text.old.items ++ base64_line piece.now) }
+// So many lines are encoded together: a call of the engine costs as much as half a line.
+const BLOCK: usize = 16;
+
+// Adds so many lines of the base64 text of `bytes`, from the one with this number on.
+fn push_lines(
+    bytes: &[u8],
+    first: usize,
+    count: usize,
+    text: &mut Vec<u8>,
+) -> Result<(), Memory>
+    requires lines { first + count ≤ (length bytes.now + 56) / 57 }
+    requires any { 0 < count }
+    requires few { count ≤ 16 }
+    ensures ok { OnOk result (text.new.items ≡ text.old.items ++ base64_lines bytes.now first count) }
 {
-    let mut line = [0u8; 78];
-    let Ok(size) = STANDARD.encode_slice(piece, &mut line) else {
+    let end = (57 * (first + count)).min(bytes.len());
+    let mut characters = [0u8; 76 * BLOCK];
+    let Ok(size) = STANDARD.encode_slice(&bytes[57 * first..end], &mut characters) else {
         unreachable!();
     };
-    line[size] = b'\r';
-    line[size + 1] = b'\n';
-    text.extend_from_slice(&line[..size + 2])?;
+    for number in 0..count {
+        let start = 76 * number;
+        push_line(&characters[start..(start + 76).min(size)], text)?;
+    }
+    Ok(())
+}
+
+fn push_line(characters: &[u8], text: &mut Vec<u8>) -> Result<(), Memory>
+    ensures ok { OnOk result (text.new.items ≡ text.old.items ++ (characters.now ++ 13 ∷ 10 ∷ [])) }
+{
+    text.extend_from_slice(characters)?;
+    text.extend_from_slice(b"\r\n")?;
     Ok(())
 }
 

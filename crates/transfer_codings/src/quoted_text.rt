@@ -50,7 +50,7 @@ fn find(byte: u8, text: &[u8]) -> usize
     ensures place { result ≡ position_or_len (λ x. x == byte) text.now }
     ensures bound { result ≤ length text.now }
 {
-    let near = text.len().min(16);
+    let near = text.len().min(4);
     for i in 0..near {
         if text[i] == byte {
             return i;
