@@ -54,8 +54,18 @@ pub fn after_colon(line: &[u8]) -> &[u8]
     }
 }
 
-/// Whether a line begins a field.
+/// Whether a line begins a field. The first byte alone tells most lines that go on with a field from those that begin one.
 pub fn is_field(line: &[u8]) -> bool
+    ensures { result ≡ begins_field line.now }
+{
+    match line {
+        [first, ..] => is_name_byte(*first) && has_name(line),
+        [] => false,
+    }
+}
+
+/// Whether a name and a colon stand first.
+fn has_name(line: &[u8]) -> bool
     ensures { result ≡ begins_field line.now }
 {
     let colon = colon_of(line);
@@ -65,7 +75,13 @@ pub fn is_field(line: &[u8]) -> bool
 fn is_name(name: &[u8]) -> bool
     ensures { result ≡ list_all is_name_byte name.now }
 {
-    name.iter().all(|b| *b >= 33 && *b <= 126)
+    name.iter().all(|b| is_name_byte(*b))
+}
+
+fn is_name_byte(byte: u8) -> bool
+    ensures { result ≡ is_name_byte byte }
+{
+    byte >= 33 && byte <= 126
 }
 
 /// Whether a line goes on with the field before it.

@@ -40,7 +40,7 @@ impl From<Failed> for InputFault {
 }
 
 /// How many bytes are asked for at once.
-const CHUNK: usize = 4096;
+const CHUNK: usize = 65_536;
 
 /// Reads a source to its end; at most `limit` bytes and the one that shows that there are more.
 pub fn read_to_end<R: Source>(
@@ -56,8 +56,8 @@ pub fn read_to_end<R: Source>(
     ensures kept { (IsErrOf result InputFault.Failed → ⊥) → R.faults source.new ≡ R.faults source.old }
 {
     let mut bytes = Vec::new(alloc);
+    let mut chunk = [0u8; CHUNK];
     while bytes.len() <= limit {
-        let mut chunk = [0u8; CHUNK];
         let room = CHUNK.min(limit - bytes.len() + 1);
         let count = source.read(&mut chunk[..room])?;
         if count == 0 {

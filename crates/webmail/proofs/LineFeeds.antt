@@ -74,16 +74,14 @@ without-kept (c ∷ rest) other =
       | inr differs ↦ sym (without_on c rest differs)
     ]
 
--- one line further
-pub one_further : (text lines longer rest line after : List ℕ) → lines ++ line_feeds rest ≡ line_feeds text → position_or_len is_return rest < length rest → line ≡ before_first is_return rest → after ≡ without_line_feed (after_first is_return rest) → longer ≡ (lines ++ line) ++ 10 ∷ [] → longer ++ line_feeds after ≡ line_feeds text
-one_further text lines longer rest line after before found l a e =
-    ap (λ t. t ++ line_feeds after) e ∙ append_assoc (lines ++ line) (10 ∷ []) (line_feeds after) ∙ append_assoc lines line (10 ∷ line_feeds after)
-    ∙ ap (λ t. lines ++ (line ++ 10 ∷ line_feeds t)) a ∙ ap (λ t. lines ++ (t ++ 10 ∷ line_feeds (without_line_feed (after_first is_return rest)))) l
-    ∙ ap (λ t. lines ++ t) (sym (line_feeds-step rest found)) ∙ before
-
--- what is left has no CR
-pub last_line : (text lines rest : List ℕ) → lines ++ line_feeds rest ≡ line_feeds text → position_or_len is_return rest ≡ length rest → lines ++ rest ≡ line_feeds text
-last_line text lines rest before none = ap (λ t. lines ++ t) (sym (line_feeds-clean rest (omega arith))) ∙ before
+-- a line and what is left, which begins after its end
+pub next_line : (rest line after : List ℕ) → position_or_len is_return rest < length rest → line ≡ before_first is_return rest
+    → after ≡ without_line_feed (after_first is_return rest) → (line ++ 10 ∷ []) ++ line_feeds after ≡ line_feeds rest
+next_line rest line after found l a =
+    append_assoc line (10 ∷ []) (line_feeds after)
+    ∙ ap (λ t. line ++ 10 ∷ line_feeds t) a
+    ∙ ap (λ t. t ++ 10 ∷ line_feeds (without_line_feed (after_first is_return rest))) l
+    ∙ sym (line_feeds-step rest found)
 
 -- valid text is read as it is
 pub lossy-valid : (bytes text : List ℕ) → text ≡ bytes → IsUtf8 bytes → text ≡ utf8_lossy bytes

@@ -1,10 +1,11 @@
 //! Bytes as a text of a page.
-ghost use Rattle.std.specs.Prelude.{◌≡◌, ◌<◌, ◌≤◌, false, length, IfOk, OnOk, IfSome, OnSome, IfNone, string_bytes};
+ghost use Rattle.std.specs.Prelude.{◌≡◌, ◌<◌, ◌≤◌, ◌++◌, ◌∷◌, [], false, length, IfOk, OnOk, IfSome, OnSome, IfNone, string_bytes};
 ghost use Rattle.std.specs.List.{before_first, after_first, position_or_len};
 ghost use Rattle.webmail.specs.Text.{is_return, line_feeds, without_line_feed};
 ghost use Rattle.std.specs.Str.Lossy.{utf8_lossy};
 ghost use Rattle.transfer_codings.specs.Charsets.{text_in};
 ghost use Rattle.webmail.specs.Frame.{with_tokens, text as text_tokens};
+ghost use Rattle.webmail.specs.Gathered.{Gathers};
 
 use memchr::memchr;
 use page_writer::{Memory, PageOut};
@@ -51,8 +52,7 @@ fn write_lines(alloc: Global, out: &mut PageOut, text: &str) -> Result<(), Memor
     ensures { OnOk result (out.new ≡ with_tokens out.old (text_tokens (line_feeds text.now)) out.old.opened) }
 {
     if has_return(text) {
-        let lines = with_line_feeds(alloc, text)?;
-        out.chars(&lines)
+        write_with_line_feeds(alloc, out, text)
     } else {
         out.chars(text)
     }
@@ -64,19 +64,33 @@ fn has_return(text: &str) -> bool
     memchr(b'\r', text.as_bytes()).is_some()
 }
 
-/// The text with CR LF and lone CR as LF.
-fn with_line_feeds(alloc: Global, text: &str) -> Result<String, Memory>
-    ensures { IfOk result (λ lines. string_bytes lines ≡ line_feeds text.now) }
+/// So many bytes of lines are written together: all lines at once would be a second copy of the text.
+const GATHERED: usize = 65_536;
+
+fn write_with_line_feeds(alloc: Global, out: &mut PageOut, text: &str) -> Result<(), Memory>
+    ensures { OnOk result (out.new ≡ with_tokens out.old (text_tokens (line_feeds text.now)) out.old.opened) }
 {
     let mut lines = String::new(alloc);
     let mut rest = text;
     while let Some((line, after)) = cut(rest) {
-        lines.push_str(line)?;
-        lines.push('\n')?;
+        add_line(out, &mut lines, line)?;
         rest = without_first_line_feed(after);
     }
     lines.push_str(rest)?;
-    Ok(lines)
+    out.chars(&lines)
+}
+
+/// Adds a line to those that are gathered, and writes them once they are many.
+fn add_line(out: &mut PageOut, lines: &mut String, line: &str) -> Result<(), Memory>
+    ensures { OnOk result (Gathers out.old (string_bytes lines.old) out.new (string_bytes lines.new) (line.now ++ 10 ∷ [])) }
+{
+    lines.push_str(line)?;
+    lines.push('\n')?;
+    if lines.len() >= GATHERED {
+        out.chars(lines)?;
+        lines.clear();
+    }
+    Ok(())
 }
 
 /// What stands before the first CR, and after it.
