@@ -4,7 +4,11 @@
 Build the program first, by `rt run -- encode-base64 </dev/null` in crates/codings_bench. Then run this file, from
 anywhere, with the number of times that each is measured (7 by default). Each figure is the least of those times, in
 nanoseconds for each byte of input. 'call' is the call alone, its memory included; 'process' is the whole program, from
-its start to its end, with the reading of a file and the writing to /dev/null.
+its start to its end, with the reading of a file and the writing to /dev/null. 'streamed' is the same of a program that
+encodes whole lines as they come, and holds no more than 58,368 bytes of input, as base64(1) holds little.
+
+It ends with status 1 where clean input takes longer than another program takes for the same work, or a hostile shape takes
+more than four times as long as clean input.
 """
 import base64
 import binascii
@@ -107,26 +111,35 @@ def python_seconds(call, data, times):
 
 
 def others(work, data, path, times):
-    """The same work by other programs: what each is called, and its seconds."""
+    """The same work by other programs: what each is called, its seconds, and which of our figures stands beside it."""
     if work == "decode-base64":
         with open(path, "wb") as file:
             file.write(data.replace(b"\r", b""))
         return [
-            ("base64 -d, process, lines ended by LF", process_seconds(["base64", "-d"], path, times)),
-            ("binascii.a2b_base64, call", python_seconds(binascii.a2b_base64, data, times)),
+            ("base64 -d, process, lines ended by LF", process_seconds(["base64", "-d"], path, times), "process"),
+            ("binascii.a2b_base64, call", python_seconds(binascii.a2b_base64, data, times), "call"),
         ]
     if work == "encode-base64":
         call = python_seconds(binascii.b2a_base64, data, times)
         return [
-            ("base64, process", process_seconds(["base64"], path, times)),
-            ("binascii.b2a_base64, call, one line", call),
+            ("base64, process", process_seconds(["base64"], path, times), "streamed"),
+            ("binascii.b2a_base64, call, one line", call, "call"),
         ]
     call = binascii.a2b_qp if work == "decode-quoted" else binascii.b2a_qp
-    return [(f"binascii.{call.__name__}, call", python_seconds(call, data, times))]
+    return [(f"binascii.{call.__name__}, call", python_seconds(call, data, times), "call")]
+
+
+def own_seconds(work, path, times):
+    """Our seconds for some work: of the call, of the whole program, and where it can be, of the program that streams."""
+    seconds = {"call": call_seconds(work, path, times), "process": process_seconds([PROGRAM, work], path, times)}
+    if work == "encode-base64":
+        seconds["streamed"] = process_seconds([PROGRAM, "stream-base64"], path, times)
+    return seconds
 
 
 def main():
     times = int(sys.argv[1]) if len(sys.argv) > 1 else 7
+    missed = []
     with tempfile.TemporaryDirectory() as folder:
         path = os.path.join(folder, "input")
         for work, shapes in inputs().items():
@@ -135,13 +148,21 @@ def main():
             for shape, data in shapes.items():
                 with open(path, "wb") as file:
                     file.write(data)
-                call = call_seconds(work, path, times) / len(data) * 1e9
-                process = process_seconds([PROGRAM, work], path, times) / len(data) * 1e9
+                own = own_seconds(work, path, times)
+                call = own["call"] / len(data)
                 clean = clean or call
-                print(f"  {shape:22} call {call:6.2f}  process {process:6.2f}  {call / clean:5.2f} times clean")
+                figures = "  ".join(f"{name} {seconds / len(data) * 1e9:6.2f}" for name, seconds in own.items())
+                print(f"  {shape:22} {figures}  {call / clean:5.2f} times clean")
+                if call > 4 * clean:
+                    missed.append(f"{work}, {shape}: more than 4 times clean")
                 if shape.startswith("clean"):
-                    for name, seconds in others(work, data, path, times):
+                    for name, seconds, ours in others(work, data, path, times):
                         print(f"    {name}: {seconds / len(data) * 1e9:.2f}")
+                        if own[ours] > seconds:
+                            missed.append(f"{work}, {shape}: slower than {name}")
+    for line in missed:
+        print("MISSED", line)
+    sys.exit(1 if missed else 0)
 
 
 if __name__ == "__main__":

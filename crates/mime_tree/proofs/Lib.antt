@@ -1,6 +1,7 @@
 mod Examples
 mod Newsletter
 mod BestExamples
+mod MalformedExamples
 pub mod BodyLemmas
 pub mod PieceLemmas
 pub mod OpeningLemmas

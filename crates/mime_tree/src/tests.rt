@@ -1,4 +1,5 @@
-//! Trees of malformed messages, beside what bench/plain_mime_tree.py reads in them.
+//! Trees of malformed messages, beside what the definition computes of them (proofs/MalformedExamples.antt) and what a slow reading of
+//! the rules finds (bench/plain_mime_tree.py).
 use crate::*;
 use std::alloc::Global;
 use std::test::Fail;
