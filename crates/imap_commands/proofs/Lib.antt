@@ -1,3 +1,6 @@
 pub mod PieceLemmas
 pub mod UidSetLemmas
+pub mod ItemLemmas
+pub mod ReadingLemmas
 pub mod Examples
+pub mod ReadingExamples

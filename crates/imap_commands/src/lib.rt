@@ -2,6 +2,7 @@
 #![tactic(auto)]
 
 pub mod command;
+pub mod laws;
 pub mod pieces;
 pub mod uid_set;
 pub mod writing;
