@@ -1,4 +1,5 @@
 pub mod PieceLemmas
+pub mod FilledLemmas
 pub mod UidSetLemmas
 pub mod ItemLemmas
 pub mod ReadingLemmas

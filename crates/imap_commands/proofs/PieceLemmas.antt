@@ -1,11 +1,8 @@
 -- Bytes before pieces.
-use Rattle.std.proofs.Common.{◌≡◌, ℕ, List, [], ◌∷◌, ◌++◌, inl, inr, length, map, refl, sym, ap, ◌∙◌, append_assoc, ◌<◌, arith, lit<, length-append}
+use Rattle.std.proofs.Common.{◌≡◌, ℕ, List, [], ◌∷◌, ◌++◌, inl, inr, length, map, refl, sym, ap, ◌∙◌, append_assoc}
 use Rattle.std.proofs.lemmas.Bool.{cases_Bool}
 use Rattle.std.proofs.lemmas.List.{map-append}
-use Rattle.std.specs.List.{AllByRecursion}
-use Rattle.imap_commands.specs.Commands.{parts, tag_parts, said}
-use Rattle.imap_commands.specs.ReadBack.{PiecesAreFilled}
-use Rattle.imap_commands.specs.Pieces.{Part, pieces_of, onto_first, literal_before, is_quotable, quoted, announced, line_end}
+use Rattle.imap_commands.specs.Pieces.{Part, pieces_of, onto_first, is_quotable, quoted, announced, line_end}
 use Rattle.imap_commands.specs.Pieces.Part.{Words, Text, Literal}
 use Rattle.imap_commands.specs.declared.pieces.Pieces.{Pieces}
 use Rattle.imap_commands.specs.Written.{Goes, GoesBy}
@@ -42,34 +39,3 @@ map_push f old new x is = ap (map f) is ∙ map-append f old (x ∷ [])
 -- parts one after the other
 pub goes_three : (a b c d : Pieces) (p1 p2 p3 : Part) → Goes a b p1 → Goes b c p2 → Goes c d p3 → GoesBy a d (p1 ∷ p2 ∷ p3 ∷ [])
 goes_three a b c d p1 p2 p3 g1 g2 g3 = λ more. g3 more ∙ g2 (p3 ∷ more) ∙ g1 (p2 ∷ p3 ∷ more)
-
--- no piece is empty
-abbrev AreFilled : List (List ℕ) → Type 0
-AreFilled [] = ⊥
-AreFilled (first ∷ more) = (0 < length first) × AllByRecursion (λ piece. 0 < length piece) more
-
-filled_onto : (bytes : List ℕ) (pieces : List (List ℕ)) → AreFilled pieces → AreFilled (onto_first bytes pieces)
-filled_onto bytes [] filled = absurd filled
-filled_onto bytes (first ∷ more) filled = (let some = filled.0 in rw length-append (omega arith), filled.1)
-
-all_filled : (pieces : List (List ℕ)) → AreFilled pieces → AllByRecursion (λ piece. 0 < length piece) pieces
-all_filled [] filled = absurd filled
-all_filled (first ∷ more) filled = filled
-
-filled_literal : (text : List ℕ) (pieces : List (List ℕ)) → AreFilled pieces → AreFilled (literal_before text pieces)
-filled_literal text pieces filled = (omega arith, all_filled (onto_first text pieces) (filled_onto text pieces filled))
-
-filled_pieces : (parts : List Part) → AreFilled (pieces_of parts)
-unfolding pieces_of
-filled_pieces [] = (lit< tt, tt)
-filled_pieces (Words words ∷ more) = filled_onto words (pieces_of more) (filled_pieces more)
-filled_pieces (Text text ∷ more) =
-    elim (cases_Bool (is_quotable text)) [
-      | inl short ↦ rw short (filled_onto (quoted text) (pieces_of more) (filled_pieces more))
-      | inr long ↦ rw long (filled_literal text (pieces_of more) (filled_pieces more))
-    ]
-filled_pieces (Literal text ∷ more) = filled_literal text (pieces_of more) (filled_pieces more)
-
-pub said_filled : PiecesAreFilled
-unfolding said
-said_filled tag one = all_filled _ (filled_pieces (tag_parts tag ++ parts one))

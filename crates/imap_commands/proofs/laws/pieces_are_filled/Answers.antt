@@ -1,4 +1,4 @@
-use Rattle.imap_commands.proofs.PieceLemmas.{said_filled}
+use Rattle.imap_commands.proofs.FilledLemmas.{said_filled}
 use Rattle.imap_commands.proofs.laws.pieces_are_filled.Goals as goal
 
 pub returns : goal.returns
