@@ -1,3 +1,7 @@
 pub mod Pieces
 pub mod Commands
 pub mod Written
+pub mod UidSets
+pub mod Items
+pub mod Reading
+pub mod ReadBack

@@ -3,7 +3,7 @@ ghost use Rattle.std.specs.Prelude.{◌≡◌, ◌++◌, ◌∷◌, [], List, �
 ghost use Rattle.std.specs.List.{list_all, flat_map};
 ghost use Rattle.imap_commands.specs.Pieces.{Part, pieces_of, is_plain, is_quotable, quoted, quoted_byte, announced};
 ghost use Rattle.imap_commands.specs.Pieces.Part.{Words, Text as Str, Literal};
-ghost use Rattle.imap_commands.specs.Written.{written, Goes};
+ghost use Rattle.imap_commands.specs.Written.{lists, written, Goes};
 
 use itoa::Buffer;
 use std::alloc::{AllocError as Memory, Global};
@@ -84,7 +84,7 @@ impl Pieces {
     /// Ends the last piece.
     #[tactic(auto, using(crate::proofs::PieceLemmas::ends))]
     pub fn finish(self) -> Result<Vec<Vec<u8>>, Memory>
-        ensures { IfOk result (λ pieces. map (λ p. p.items) pieces.items ≡ written self []) }
+        ensures { IfOk result (λ pieces. lists pieces.items ≡ written self []) }
     {
         let mut last = self.last;
         last.extend_from_slice(b"\r\n")?;

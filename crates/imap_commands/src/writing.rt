@@ -1,8 +1,11 @@
 //! Writes a command.
-ghost use Rattle.std.specs.Prelude.{◌≡◌, ◌++◌, ◌∷◌, [], map, codes, decimal, IfOk, OnOk, List};
+ghost use Rattle.std.specs.Prelude.{◌≡◌, ◌++◌, ◌∷◌, [], map, codes, decimal, IfOk, OnOk, List, ℕ};
+ghost use Rattle.std.specs.List.{concat};
 ghost use Rattle.imap_commands.specs.Pieces.Part.{Words, Text as Str, Literal};
-ghost use Rattle.imap_commands.specs.Written.{Goes, GoesBy};
+ghost use Rattle.imap_commands.specs.Written.{lists, Goes, GoesBy};
 ghost use Rattle.imap_commands.specs.Commands.{said, parts, tag_parts, label_word, label_words, known_parts, mark_parts, resync_parts, sign};
+ghost use Rattle.imap_commands.specs.Reading.{command_of};
+ghost use Rattle.imap_commands.specs.ReadBack.{spoken, IsSayable, IsKnownSayable, IsNoneBefore};
 
 use crate::command::{Command, Known, Label};
 use crate::pieces::Pieces;
@@ -11,7 +14,9 @@ use std::alloc::{AllocError as Memory, Global};
 /// The pieces of a command with the tag `A` and a number. Between two pieces the server's `+` is awaited.
 #[tactic(auto, unfolding(crate::specs::Commands::said))]
 pub fn write(alloc: Global, command: &Command, tag: u32) -> Result<Vec<Vec<u8>>, Memory>
-    ensures { IfOk result (λ pieces. map (λ p. p.items) pieces.items ≡ said tag command.now) }
+    ensures pieces { IfOk result (λ pieces. lists pieces.items ≡ said tag command.now) }
+    ensures reads { IfOk result (λ pieces. command_of (concat (lists pieces.items)) ≡ Some (tag, spoken command.now)) }
+    ensures ends_once { IfOk result (λ pieces. IsNoneBefore (concat (lists pieces.items))) }
 {
     let mut pieces = Pieces::new(alloc);
     write_tag(&mut pieces, tag)?;
@@ -31,7 +36,8 @@ fn write_tag(pieces: &mut Pieces, tag: u32) -> Result<(), Memory>
 
 #[tactic(auto, unfolding(crate::specs::Commands::parts))]
 fn write_parts(alloc: Global, pieces: &mut Pieces, command: &Command) -> Result<(), Memory>
-    ensures { OnOk result (GoesBy pieces.old pieces.new (parts command.now)) }
+    ensures parts { OnOk result (GoesBy pieces.old pieces.new (parts command.now)) }
+    ensures fits { OnOk result (IsSayable command.now) }
 {
     match command {
         Command::Login { user, password } => {
@@ -77,7 +83,8 @@ fn write_select(
     folder: &str,
     known: &Option<Known>,
 ) -> Result<(), Memory>
-    ensures { OnOk result (GoesBy pieces.old pieces.new (Words (codes "SELECT ") ∷ Str folder.now ∷ known_parts known.now)) }
+    ensures parts { OnOk result (GoesBy pieces.old pieces.new (Words (codes "SELECT ") ∷ Str folder.now ∷ known_parts known.now)) }
+    ensures fits { OnOk result (IsKnownSayable known.now) }
 {
     pieces.words("SELECT ")?;
     pieces.text(alloc, folder)?;
@@ -87,16 +94,18 @@ fn write_select(
 
 /// Says up to which mark changes were told, where they were.
 fn write_known(pieces: &mut Pieces, known: &Option<Known>) -> Result<(), Memory>
-    ensures { OnOk result (GoesBy pieces.old pieces.new (known_parts known.now)) }
+    ensures parts { OnOk result (GoesBy pieces.old pieces.new (known_parts known.now)) }
+    ensures fits { OnOk result (IsKnownSayable known.now) }
 {
     match known {
-        Some(known) => write_mark(pieces, known),
+        Some(known) => write_mark(pieces, *known),
         None => Ok(()),
     }
 }
 
-fn write_mark(pieces: &mut Pieces, known: &Known) -> Result<(), Memory>
-    ensures { OnOk result (GoesBy pieces.old pieces.new (mark_parts known.now)) }
+fn write_mark(pieces: &mut Pieces, known: Known) -> Result<(), Memory>
+    ensures parts { OnOk result (GoesBy pieces.old pieces.new (mark_parts known)) }
+    ensures fits { IsKnownSayable (Some known) }
 {
     if known.mark == 0 {
         Ok(())
@@ -105,8 +114,8 @@ fn write_mark(pieces: &mut Pieces, known: &Known) -> Result<(), Memory>
     }
 }
 
-fn write_resync(pieces: &mut Pieces, known: &Known) -> Result<(), Memory>
-    ensures { OnOk result (GoesBy pieces.old pieces.new (resync_parts known.now)) }
+fn write_resync(pieces: &mut Pieces, known: Known) -> Result<(), Memory>
+    ensures { OnOk result (GoesBy pieces.old pieces.new (resync_parts known)) }
 {
     pieces.words(" (QRESYNC (")?;
     pieces.small(known.validity)?;

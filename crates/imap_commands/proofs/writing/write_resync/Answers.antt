@@ -6,6 +6,6 @@ pub returns : goal.returns
 returns c = λ more.
     c.in_ok-words-3.ensures more
     ∙ c.in_ok-number.ensures (Words (codes "))") ∷ more)
-    ∙ c.in_ok-words-2.ensures (Words (decimal c.args.known.now.mark) ∷ Words (codes "))") ∷ more)
-    ∙ c.in_ok-small.ensures (Words (codes " ") ∷ Words (decimal c.args.known.now.mark) ∷ Words (codes "))") ∷ more)
-    ∙ c.in_ok-words.ensures (Words (decimal c.args.known.now.validity) ∷ Words (codes " ") ∷ Words (decimal c.args.known.now.mark) ∷ Words (codes "))") ∷ more)
+    ∙ c.in_ok-words-2.ensures (Words (decimal c.args.known.mark) ∷ Words (codes "))") ∷ more)
+    ∙ c.in_ok-small.ensures (Words (codes " ") ∷ Words (decimal c.args.known.mark) ∷ Words (codes "))") ∷ more)
+    ∙ c.in_ok-words.ensures (Words (decimal c.args.known.validity) ∷ Words (codes " ") ∷ Words (decimal c.args.known.mark) ∷ Words (codes "))") ∷ more)

@@ -3,8 +3,8 @@ use Rattle.imap_commands.specs.Pieces.Part.{Text}
 use Rattle.imap_commands.specs.Commands.{known_parts}
 use Rattle.imap_commands.proofs.writing.write_select.Goals as goal
 
-pub returns : goal.returns
-returns c = λ more.
-    c.in_ok-write_known.ensures more
+pub returns-clause-parts : goal.returns-clause-parts
+returns-clause-parts c = λ more.
+    c.in_ok-write_known.ensures.parts more
     ∙ c.in_ok-text.ensures (known_parts c.args.known.now ++ more)
     ∙ c.in_ok-words.ensures (Text c.args.folder.now ∷ known_parts c.args.known.now ++ more)
