@@ -8,7 +8,8 @@ use std::time::Instant;
 use std::{env, io};
 use transfer_codings::{Coding, Memory, decode, encode_base64, encode_quoted};
 
-const USAGE: &str = "usage: codings_bench decode-base64|decode-quoted|encode-base64|encode-quoted [TIMES]
+const USAGE: &str =
+    "usage: codings_bench decode-base64|decode-quoted|encode-base64|encode-quoted [TIMES]
        codings_bench stream-base64";
 
 /// So many bytes are encoded at a time where the input is streamed. They are whole lines, so the lines of all pieces are

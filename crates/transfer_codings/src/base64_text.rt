@@ -59,12 +59,7 @@ pub fn encode_base64(alloc: Global, bytes: &[u8]) -> Result<Vec<u8>, Memory>
 const BLOCK: usize = 16;
 
 // Adds so many lines of the base64 text of `bytes`, from the one with this number on.
-fn push_lines(
-    bytes: &[u8],
-    first: usize,
-    count: usize,
-    text: &mut Vec<u8>,
-) -> Result<(), Memory>
+fn push_lines(bytes: &[u8], first: usize, count: usize, text: &mut Vec<u8>) -> Result<(), Memory>
     requires lines { first + count ≤ (length bytes.now + 56) / 57 }
     requires any { 0 < count }
     requires few { count ≤ 16 }
