@@ -1,0 +1,5 @@
+pub mod LineLemmas
+pub mod PlaceLemmas
+pub mod PassLemmas
+pub mod FieldLemmas
+pub mod StreamLemmas
