@@ -1,4 +1,5 @@
 use Rattle.std.proofs.Common.{◌≡◌}
+use Rattle.imap_units.specs.Units.{IsUnit}
 use Rattle.imap_units.specs.Cuts.{Gives}
 use Rattle.imap_units.specs.Streams.{bytes_of}
 use Rattle.imap_units.proofs.StreamLemmas.{took_more, gives_less, gives_of, bytes_of-push}
@@ -12,5 +13,6 @@ loop-units-smaller c = gives_less c.loop-units.reader c.advance.new.self (given 
 
 pub loop-units-preserved : goal.loop-units-preserved
 loop-units-preserved c =
-    let t = took_more c.args.reader.now c.loop-units.reader c.advance.new.self (bytes_of c.args.units.now.items) (bytes_of c.loop-units.units.items) c.loop-units.invariant (given c) in
+    let given_unit = given c in
+    let t = took_more IsUnit c.args.reader.now c.loop-units.reader c.advance.new.self (bytes_of c.args.units.now.items) (bytes_of c.loop-units.units.items) c.loop-units.invariant given_unit given_unit.unit in
     rw (c.in_ok-push.ensures.items, bytes_of-push, c.in_ok-from_slice.ensures.items, c.unit.ensures) t
