@@ -1,9 +1,7 @@
 -- The fields of a reader that goes on.
-use Rattle.std.proofs.Common.{◌≡◌, ℕ, zero, suc, ◌+◌, ◌-◌, ◌<◌, ◌≤◌, ◌^◌, true, List, [], ◌∷◌, ◌++◌, length, take, drop, refl, sym, ap, subst, ◌∙◌, arith}
+use Rattle.std.proofs.Common.{◌≡◌, ℕ, ◌+◌, ◌-◌, ◌<◌, ◌≤◌, ◌^◌, true, List, ◌++◌, length, take, drop, refl, sym, ap, subst, ◌∙◌, arith}
 use Rattle.std.proofs.lemmas.List.{take-append-drop, length-take-le, length-drop, take_rest, drop-drop}
 use Rattle.imap_units.specs.Units.{Place, place_from, place_of, IsUnit, AnnouncesTooMuch}
-use Rattle.imap_units.specs.Units.Place.{Line, TooLong}
-use Rattle.imap_units.specs.declared.scan.Phase.{Phase}
 use Rattle.imap_units.specs.declared.scan.Phase.TheVariants as phases
 use Rattle.imap_units.specs.declared.scan.Found.{Found}
 use Rattle.imap_units.specs.Scans.{IsAt, Leads}

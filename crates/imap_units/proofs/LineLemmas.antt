@@ -1,11 +1,11 @@
 -- Lines that end with no size.
-use Rattle.std.proofs.Common.{◌≡◌, ℕ, suc, ◌+◌, ◌-◌, ◌≤◌, Bool, true, false, not, ◌||◌, ◌==◌, List, [], ◌∷◌, length, drop, refl, sym, ap, subst, ◌∙◌, arith, if◌then◌else◌, Option, Some, None, inl, inr}
+use Rattle.std.proofs.Common.{◌≡◌, ℕ, suc, ◌-◌, Bool, true, false, not, ◌||◌, ◌==◌, List, [], ◌∷◌, length, refl, sym, subst, ◌∙◌, arith, None, inl, inr}
 use Rattle.std.specs.List.{fold, ends_with}
 use Rattle.std.proofs.lemmas.Bool.{cases_Bool}
 use Rattle.imap_units.specs.declared.line.Brace.TheVariants as braces
-use Rattle.imap_units.specs.Lines.{Tail, tail_with, tail_else, tail_of, is_digit, has_literals}
+use Rattle.imap_units.specs.Lines.{Tail, tail_with, tail_of, has_literals}
 use Rattle.imap_units.specs.Lines.Tail.{Out, Open, Number, Size}
-use Rattle.imap_units.specs.Units.{Place, after_tail, after_line}
+use Rattle.imap_units.specs.Units.{after_tail, after_line}
 use Rattle.imap_units.specs.Units.Place.{Whole}
 use Rattle.imap_units.specs.Scans.{capped, kept, TellsSize}
 

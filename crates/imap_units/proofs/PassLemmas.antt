@@ -1,14 +1,12 @@
 -- What one turn of the scan comes to.
-use Rattle.std.proofs.Common.{◌≡◌, ℕ, zero, suc, ◌+◌, ◌-◌, ◌<◌, ◌≤◌, Bool, true, false, ◌==◌, List, [], ◌∷◌, ◌++◌, length, get_or, take, drop, refl, sym, ap, subst, ◌∙◌, append_assoc, arith}
+use Rattle.std.proofs.Common.{◌≡◌, ℕ, zero, suc, ◌+◌, ◌-◌, ◌<◌, ◌≤◌, Bool, true, false, List, [], ◌∷◌, ◌++◌, length, get_or, take, drop, refl, sym, ap, subst, ◌∙◌, arith}
 use Rattle.std.specs.List.{position_or_len}
 use Rattle.std.proofs.lemmas.List.{take_more, drop-append-le, length-take, length-take-le, drop-take, length-drop, take_rest, get_or-drop}
-use Rattle.std.proofs.Math.Seq.{take-add, take-length, drop-length}
+use Rattle.std.proofs.Math.Seq.{take-add, drop-length}
 use Rattle.std.proofs.lemmas.List.Sums.{passes_at_first}
 use Rattle.imap_units.specs.Units.{Place, step, place_from, place_of, octets, after_feed}
 use Rattle.imap_units.specs.Units.Place.{Line, Octets}
-use Rattle.imap_units.specs.declared.scan.Phase.{Phase}
 use Rattle.imap_units.specs.declared.scan.Phase.TheVariants as phases
-use Rattle.imap_units.specs.declared.line.Ending.TheVariants as endings
 use Rattle.imap_units.specs.declared.line.Ending.{Ending}
 use Rattle.imap_units.specs.Scans.{IsAt, place_behind}
 use Rattle.imap_units.proofs.PlaceLemmas.{place_of-append, octets_on, line_on, feed_on, is_feed}

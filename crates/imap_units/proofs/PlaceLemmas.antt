@@ -1,10 +1,10 @@
 -- The place in a unit, byte after byte.
-use Rattle.std.proofs.Common.{◌≡◌, ℕ, zero, suc, ◌+◌, ◌-◌, ◌<◌, ◌≤◌, Bool, true, false, ◌==◌, List, [], ◌∷◌, ◌++◌, length, get_or, take, drop, refl, sym, ap, subst, ◌∙◌, append_assoc, arith, inl, inr}
+use Rattle.std.proofs.Common.{◌≡◌, ℕ, zero, suc, ◌+◌, ◌-◌, ◌<◌, ◌≤◌, Bool, true, false, ◌==◌, List, [], ◌∷◌, ◌++◌, length, get_or, take, refl, sym, ap, ◌∙◌, append_assoc, arith, inl, inr}
 use Rattle.std.specs.List.{position_or_len}
 use Rattle.std.proofs.lemmas.Bool.{cases_Bool}
 use Rattle.std.proofs.lemmas.List.{take_more, append-nil}
-use Rattle.imap_units.specs.Units.{Place, step, place_from, place_of, octets, after_line, IsUnit, AnnouncesTooMuch}
-use Rattle.imap_units.specs.Units.Place.{Line, Octets, Whole, TooLong, Past}
+use Rattle.imap_units.specs.Units.{Place, step, place_from, place_of, octets, IsUnit}
+use Rattle.imap_units.specs.Units.Place.{Line, TooLong, Past}
 
 pub place_from-append : (p : Place) (xs ys : List ℕ) → place_from p (xs ++ ys) ≡ place_from (place_from p xs) ys
 unfolding place_from
@@ -40,7 +40,7 @@ take_with n c bytes = let same : 1 + n ≡ suc n = omega arith in rw same refl
 abbrev pub is_feed : ℕ → Bool
 is_feed c = c == 10
 
-byte_on : (first : Bool) (line : List ℕ) (c : ℕ) → is_feed c ≡ false → step (Line first line) c ≡ Line first (line ++ c ∷ [])
+pub byte_on : (first : Bool) (line : List ℕ) (c : ℕ) → is_feed c ≡ false → step (Line first line) c ≡ Line first (line ++ c ∷ [])
 unfolding step
 byte_on first line c test = rw test refl
 

@@ -1,5 +1,5 @@
 -- Units taken one after another.
-use Rattle.std.proofs.Common.{◌≡◌, ℕ, zero, suc, ◌+◌, ◌-◌, ◌<◌, ◌≤◌, Bool, true, false, List, [], ◌∷◌, ◌++◌, length, map, take, drop, get_or, refl, sym, ap, subst, ◌∙◌, arith, append_assoc, Result, Ok, Err, length-append}
+use Rattle.std.proofs.Common.{◌≡◌, ℕ, ◌+◌, ◌<◌, Bool, true, List, [], ◌∷◌, ◌++◌, length, take, drop, get_or, refl, sym, ap, subst, ◌∙◌, arith, append_assoc, Result, Ok, Err, length-append}
 use Rattle.std.specs.List.{concat, AllByRecursion}
 use Rattle.std.specs.Global.{Vec}
 use Rattle.std.proofs.lemmas.List.{append-nil, take-append-drop, take_more}
@@ -7,17 +7,16 @@ use Rattle.std.proofs.lemmas.List.Folds.{concat-append}
 use Rattle.imap_units.specs.declared.stream.StreamFault.{StreamFault}
 use Rattle.imap_units.specs.declared.stream.StreamFault.TheVariants as faults
 use Rattle.imap_units.specs.declared.reader.TooLong as fault
-use Rattle.imap_units.specs.Units.{Place, place_from, place_of, IsUnit, AnnouncesTooMuch}
-use Rattle.imap_units.specs.Units.Place.{Line, Whole}
+use Rattle.imap_units.specs.Units.{Place, place_from, IsUnit, AnnouncesTooMuch}
 use Rattle.imap_units.specs.Cuts.{Cut, fed, Gives, Advances}
 use Rattle.imap_units.specs.Streams.{Splits, Takes, TakesAll, StreamGives, bytes_of}
 use Rattle.imap_units.proofs.PlaceLemmas.{place_of-append, too_long_on}
 
-each_append : (P : List ℕ → Type 0) (xs ys : List (List ℕ)) → AllByRecursion P xs → AllByRecursion P ys → AllByRecursion P (xs ++ ys)
+pub each_append : (P : List ℕ → Type 0) (xs ys : List (List ℕ)) → AllByRecursion P xs → AllByRecursion P ys → AllByRecursion P (xs ++ ys)
 each_append P [] ys p q = q
 each_append P (x ∷ xs) ys p q = (p.0, each_append P xs ys p.1 q)
 
-concat_push : (xs : List (List ℕ)) (x : List ℕ) → concat (xs ++ x ∷ []) ≡ concat xs ++ x
+pub concat_push : (xs : List (List ℕ)) (x : List ℕ) → concat (xs ++ x ∷ []) ≡ concat xs ++ x
 concat_push xs x = concat-append xs (x ∷ []) ∙ ap (λ (ys : List ℕ). concat xs ++ ys) (append-nil x)
 
 pub took_none : (P : List ℕ → Type 0) (cut : Cut) (before : List (List ℕ)) → Takes P cut before cut before
@@ -34,7 +33,7 @@ took_more P old mid new before after t g part = record {
   at = omega (arith, t.at, g.at, ap length (concat_push t.more new.given), length-append (concat t.more) new.given);
 }
 
-unit_some : (unit : List ℕ) → IsUnit unit → 0 < length unit
+pub unit_some : (unit : List ℕ) → IsUnit unit → 0 < length unit
 unfolding place_from
 unit_some [] is = absurd cc
 unit_some (x ∷ xs) is = omega arith

@@ -1,5 +1,5 @@
 -- What the fields of a reader of units hold.
-use Rattle.std.specs.Prelude.{◌≡◌, ℕ, ◌+◌, ◌-◌, ◌^◌, ◌<◌, ◌≤◌, List, length, take, drop}
+use Rattle.std.specs.Prelude.{ℕ, ◌+◌, ◌-◌, ◌^◌, ◌<◌, ◌≤◌, List, length, take, drop}
 use Rattle.imap_units.specs.declared.scan.Phase.{Phase}
 use Rattle.imap_units.specs.Scans.{IsAt}
 use Rattle.imap_units.specs.Cuts.{Cut}

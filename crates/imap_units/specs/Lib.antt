@@ -4,3 +4,4 @@ pub mod Scans
 pub mod Cuts
 pub mod Fields
 pub mod Streams
+pub mod Laws

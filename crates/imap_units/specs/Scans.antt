@@ -1,5 +1,5 @@
 -- What the scan of a unit keeps of the bytes.
-use Rattle.std.specs.Prelude.{◌≡◌, ℕ, ◌+◌, ◌-◌, ◌*◌, ◌≤◌, ◌<◌, Bool, List, [], ◌∷◌, ◌++◌, Option, Some, None, length, drop, min}
+use Rattle.std.specs.Prelude.{◌≡◌, ℕ, ◌+◌, ◌≤◌, ◌<◌, Bool, List, [], ◌∷◌, ◌++◌, Option, Some, None, length, drop, min}
 use Rattle.imap_units.specs.declared.line.Brace.{Brace}
 use Rattle.imap_units.specs.declared.line.Brace.TheVariants as braces
 use Rattle.imap_units.specs.declared.line.Ending.{Ending}
@@ -10,7 +10,7 @@ use Rattle.imap_units.specs.declared.scan.Found.{Found}
 use Rattle.imap_units.specs.declared.scan.Found.TheVariants as found
 use Rattle.imap_units.specs.Lines.{Tail}
 use Rattle.imap_units.specs.Lines.Tail.{Out, Open, Number, Size}
-use Rattle.imap_units.specs.Units.{limit, Place, octets, after_feed, place_of, IsUnit, AnnouncesTooMuch}
+use Rattle.imap_units.specs.Units.{limit, Place, octets, place_of, IsUnit, AnnouncesTooMuch}
 use Rattle.imap_units.specs.Units.Place.{Line, Octets, Whole, TooLong}
 
 -- a number past the limit is kept as the limit and one

@@ -1,9 +1,9 @@
 -- Which bytes of a server's stream are one unit (RFC 9051, sections 2.2.2 and 4.3). It ends at its first CR LF, with one exception: in a
 -- unit that has literals, a line that ends with `{n}` goes on with n octets and a further line.
 use Rattle.std.specs.Prelude.{◌≡◌, ℕ, zero, suc, ◌-◌, Bool, true, false, not, ◌||◌, ◌==◌, nat_lt, if◌then◌else◌, List, [], ◌∷◌, ◌++◌, length, take}
-use Rattle.std.specs.List.{fold, ends_with}
+use Rattle.std.specs.List.{ends_with}
 use Rattle.imap_units.specs.Lines.{Tail, tail_of, has_literals}
-use Rattle.imap_units.specs.Lines.Tail.{Out, Open, Number, Size}
+use Rattle.imap_units.specs.Lines.Tail.{Size}
 
 -- the octets of the longest literal that is read
 abbrev pub limit : ℕ

@@ -2,6 +2,7 @@
 //! the lines behind them.
 #![tactic(auto)]
 
+pub mod laws;
 pub mod line;
 pub mod reader;
 pub mod scan;

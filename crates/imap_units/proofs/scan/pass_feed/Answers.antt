@@ -1,7 +1,6 @@
-use Rattle.std.proofs.Common.{◌≡◌, ◌+◌, ◌∷◌, [], ◌++◌, take, drop, ap, ◌∙◌, arith}
-use Rattle.imap_units.specs.Units.{octets, place_of}
+use Rattle.std.proofs.Common.{ap, ◌∙◌, arith}
+use Rattle.imap_units.specs.Units.{octets}
 use Rattle.imap_units.specs.declared.line.Ending.TheVariants as endings
-use Rattle.imap_units.specs.Scans.{place_behind}
 use Rattle.imap_units.proofs.PassLemmas.{feed_leads, feed_goes_on, feed_begins, feed_opens}
 use Rattle.imap_units.proofs.scan.pass_feed.Goals as goal
 

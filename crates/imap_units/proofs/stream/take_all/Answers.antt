@@ -1,4 +1,3 @@
-use Rattle.std.proofs.Common.{◌≡◌}
 use Rattle.imap_units.specs.Units.{IsUnit}
 use Rattle.imap_units.specs.Cuts.{Gives}
 use Rattle.imap_units.specs.Streams.{bytes_of}

@@ -1,7 +1,7 @@
-use Rattle.std.proofs.Common.{◌≡◌, ℕ, ◌+◌, ◌≤◌, List, length, take, drop, subst, arith, refl}
+use Rattle.std.proofs.Common.{◌+◌, drop, arith}
 use Rattle.std.proofs.lemmas.List.{length-drop}
 use Rattle.imap_units.specs.declared.scan.Found.TheVariants as found
-use Rattle.imap_units.proofs.FieldLemmas.{held_at_start, Scanned, scanned, gave, too_long_whole, went}
+use Rattle.imap_units.proofs.FieldLemmas.{held_at_start, scanned, gave, too_long_whole, went}
 use Rattle.imap_units.proofs.reader.UnitReader.advance.Goals as goal
 
 pub invariant_of-self-in-Whole : goal.invariant_of-self-in-Whole
