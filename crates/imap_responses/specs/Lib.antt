@@ -1,0 +1,6 @@
+pub mod Slices
+pub mod Things
+pub mod Words
+pub mod Strings
+pub mod Items
+pub mod Response
