@@ -1,7 +1,7 @@
 -- Strings (RFC 9051 §4.3): quoted, or a literal with the number of its octets in front.
 use Rattle.std.specs.Prelude.{◌≡◌, ◌≤◌, ℕ, ◌+◌, Bool, true, false, not, ◌&&◌, ◌==◌, nat_lt, nat_le, if◌then◌else◌, List, [], ◌∷◌, ◌++◌, length, take, drop, codes, Option, Some, None}
 use Rattle.imap_responses.specs.declared.words.Class.TheVariants as classes
-use Rattle.imap_responses.specs.Words.{◌>>=◌, same, run_at, number_at}
+use Rattle.imap_responses.specs.Words.{◌>>=◌, same, is_all, number_at}
 
 -- ---- quoted strings, behind the first quote
 
@@ -21,13 +21,9 @@ unescape [] = []
 unescape (c ∷ []) = if c == 92 then [] else c ∷ []
 unescape (c ∷ d ∷ text) = if c == 92 then d ∷ unescape text else c ∷ unescape (d ∷ text)
 
--- no CR and no LF
-abbrev pub is_one_line : List ℕ → Bool
-is_one_line text = length (run_at classes.Line text).1 == 0
-
--- the text with its escapes
+-- the text with its escapes; it holds no CR and no LF
 unfoldable pub raw_at : List ℕ → Option (List ℕ × List ℕ)
-raw_at bytes = before_quote bytes >>= λ x. if is_one_line x.0 then Some x else None
+raw_at bytes = before_quote bytes >>= λ x. if is_all classes.Line x.0 then Some x else None
 
 unfoldable pub quoted_at : List ℕ → Option (List ℕ × List ℕ)
 quoted_at bytes = raw_at bytes >>= λ x. Some (unescape x.0, x.1)

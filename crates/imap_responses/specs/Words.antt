@@ -54,6 +54,10 @@ in_class classes.Unescaped c = not (c == 92)
 abbrev pub run_at : Class → List ℕ → List ℕ × List ℕ
 run_at class bytes = let n = prefix_len (in_class class) bytes in (take n bytes, drop n bytes)
 
+-- all bytes are of the class
+abbrev pub is_all : Class → List ℕ → Bool
+is_all class bytes = length (run_at class bytes).1 == 0
+
 -- a run of one byte at least
 abbrev pub some_run_at : Class → List ℕ → Option (List ℕ × List ℕ)
 some_run_at class bytes = if prefix_len (in_class class) bytes == 0 then None else Some (run_at class bytes)

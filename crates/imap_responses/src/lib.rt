@@ -2,13 +2,16 @@
 //! (RFC 7162) and extended searches (RFC 4731).
 #![tactic(auto)]
 
+mod codes;
 mod fetch;
 mod items;
 mod reading;
 mod response;
 mod slices;
+mod states;
 mod stop;
 mod strings;
+mod untagged;
 mod words;
 
 pub use items::Items;

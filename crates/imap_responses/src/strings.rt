@@ -3,11 +3,11 @@
 ghost use Rattle.std.specs.Prelude.{◌≡◌, ◌≤◌, length, IfOk};
 ghost use Rattle.imap_responses.specs.Things.{bytes_of, bytes_or_nil};
 ghost use Rattle.imap_responses.specs.Words.{Gives};
-ghost use Rattle.imap_responses.specs.Strings.{IsQuoteAt, is_one_line as one_line, unescape, raw_at, quoted_at, literal_at, string_at, is_nil as nil, nstring_at};
+ghost use Rattle.imap_responses.specs.Strings.{IsQuoteAt, unescape, raw_at, quoted_at, literal_at, string_at, is_nil as nil, nstring_at};
 
 use crate::response::Lent;
 use crate::stop::Stop;
-use crate::words::{Class, is, number, run};
+use crate::words::{Class, is, is_all, number};
 use mail_io::Bytes;
 use std::alloc::{AllocError, Global};
 
@@ -31,13 +31,6 @@ fn quote_place(bytes: &[u8]) -> Option<usize>
     None
 }
 
-pub fn is_one_line(text: &[u8]) -> bool
-    ensures { result ≡ one_line text.now }
-{
-    let (_, rest) = run(Class::Line, text);
-    rest.is_empty()
-}
-
 /// The text of a quoted string with its escapes, behind the first quote.
 #[tactic(auto, unfolding(crate::specs::Strings::raw_at))]
 pub fn raw(bytes: &[u8]) -> Result<(&[u8], &[u8]), Stop>
@@ -48,7 +41,7 @@ pub fn raw(bytes: &[u8]) -> Result<(&[u8], &[u8]), Stop>
         Some(len) => {
             let text = &bytes[..len];
             let after = &bytes[len + 1..];
-            if !is_one_line(text) {
+            if !is_all(Class::Line, text) {
                 return Err(Stop::No);
             }
             Ok((text, after))
@@ -77,8 +70,7 @@ fn unescaped(alloc: Global, text: &[u8]) -> Result<Bytes, AllocError>
 fn text_of(alloc: Global, raw: &[u8]) -> Result<Lent<'_>, AllocError>
     ensures { IfOk result (λ v. bytes_of v ≡ unescape raw.now) }
 {
-    let (_, escapes) = run(Class::Unescaped, raw);
-    if escapes.is_empty() {
+    if is_all(Class::Unescaped, raw) {
         return Ok(Lent::Slice(raw));
     }
     Ok(Lent::Made(unescaped(alloc, raw)?))

@@ -3,7 +3,7 @@
 ghost use Rattle.std.specs.Prelude.{◌≡◌, ◌≤◌, ◌<◌, ◌^◌, ◌++◌, length, take, drop, IfOk, OnOk};
 ghost use Rattle.std.specs.List.{prefix_len};
 ghost use Rattle.imap_responses.specs.Slices.{slices_of};
-ghost use Rattle.imap_responses.specs.Words.{Gives, same, begins as begins_word, in_class, is_tag_byte as tag_byte, run_at, some_run_at, byte_at, end_at, number_at, positive_at, value_of, words_of, words_on, kept, group_at, text_at};
+ghost use Rattle.imap_responses.specs.Words.{Gives, same, begins as begins_word, in_class, is_tag_byte as tag_byte, run_at, is_all as all_in, some_run_at, byte_at, end_at, number_at, positive_at, value_of, words_of, words_on, kept, group_at, text_at};
 ghost use Rattle.imap_responses.specs.Words.{value_on as capped};
 
 use crate::slices::Slices;
@@ -93,6 +93,13 @@ pub fn run(class: Class, bytes: &[u8]) -> (&[u8], &[u8])
     ensures rest { result.1.now ≡ (run_at class bytes.now).1 }
 {
     bytes.split_at(run_len(class, bytes))
+}
+
+pub fn is_all(class: Class, bytes: &[u8]) -> bool
+    ensures { result ≡ all_in class bytes.now }
+{
+    let (_, rest) = run(class, bytes);
+    rest.is_empty()
 }
 
 /// A run of one byte at least.
