@@ -40,6 +40,10 @@ is_line_end c = c == 13 || c == 10
 abbrev pub is_tag_byte : ℕ → Bool
 is_tag_byte c = nat_lt 32 c && nat_lt c 127 && not (c == 40 || c == 41 || c == 123 || c == 37 || c == 42 || c == 34 || c == 92 || c == 43)
 
+-- neither a space nor ( ) " { nor of a line's end
+abbrev pub is_atom_byte : ℕ → Bool
+is_atom_byte c = not (c == 32 || c == 40 || c == 41 || c == 34 || c == 123 || is_line_end c)
+
 abbrev pub in_class : Class → ℕ → Bool
 in_class classes.Word c = not (c == 32 || is_line_end c)
 in_class classes.Line c = not (is_line_end c)
@@ -49,6 +53,7 @@ in_class classes.Tag c = is_tag_byte c
 in_class classes.CodeWord c = not (c == 32 || c == 93)
 in_class classes.CodeText c = not (c == 93)
 in_class classes.Unescaped c = not (c == 92)
+in_class classes.Atom c = is_atom_byte c
 
 -- the longest run of a class, and what follows it
 abbrev pub run_at : Class → List ℕ → List ℕ × List ℕ

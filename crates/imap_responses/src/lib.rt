@@ -3,6 +3,7 @@
 #![tactic(auto)]
 
 mod codes;
+mod dates;
 mod fetch;
 mod items;
 mod reading;
@@ -12,6 +13,7 @@ mod states;
 mod stop;
 mod strings;
 mod untagged;
+mod values;
 mod words;
 
 pub use items::Items;

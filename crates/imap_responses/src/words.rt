@@ -3,7 +3,7 @@
 ghost use Rattle.std.specs.Prelude.{◌≡◌, ◌≤◌, ◌<◌, ◌^◌, ◌++◌, length, take, drop, IfOk, OnOk};
 ghost use Rattle.std.specs.List.{prefix_len};
 ghost use Rattle.imap_responses.specs.Slices.{slices_of};
-ghost use Rattle.imap_responses.specs.Words.{Gives, same, begins as begins_word, in_class, is_tag_byte as tag_byte, run_at, is_all as all_in, some_run_at, byte_at, end_at, number_at, positive_at, value_of, words_of, words_on, kept, group_at, text_at};
+ghost use Rattle.imap_responses.specs.Words.{Gives, same, begins as begins_word, in_class, is_tag_byte as tag_byte, is_atom_byte as atom_byte, run_at, is_all as all_in, some_run_at, byte_at, end_at, number_at, positive_at, value_of, words_of, words_on, kept, group_at, text_at};
 ghost use Rattle.imap_responses.specs.Words.{value_on as capped};
 
 use crate::slices::Slices;
@@ -28,6 +28,8 @@ pub enum Class {
     CodeText,
     /// Not a backslash.
     Unescaped,
+    /// Of an atom, or of any other word that is no string.
+    Atom,
 }
 
 impl Class {
@@ -43,8 +45,21 @@ impl Class {
             Class::CodeWord => !(byte == b' ' || byte == b']'),
             Class::CodeText => byte != b']',
             Class::Unescaped => byte != b'\\',
+            Class::Atom => is_atom_byte(byte),
         }
     }
+}
+
+fn is_atom_byte(byte: u8) -> bool
+    ensures { result ≡ atom_byte byte }
+{
+    !(byte == b' '
+        || byte == b'('
+        || byte == b')'
+        || byte == b'"'
+        || byte == b'{'
+        || byte == b'\r'
+        || byte == b'\n')
 }
 
 fn is_tag_byte(byte: u8) -> bool
