@@ -3,11 +3,15 @@
 
 pub mod command;
 pub mod pieces;
+pub mod uid_set;
 pub mod writing;
 
 pub use command::{Command, Known, Label};
 pub use std::alloc::AllocError as Memory;
+pub use uid_set::{UidRange, UidSet};
 pub use writing::write;
 
 #[cfg(test)]
 mod tests;
+#[cfg(test)]
+mod uid_tests;

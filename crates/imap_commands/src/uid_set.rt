@@ -1,0 +1,108 @@
+//! Sets of UIDs, as a server sends them (RFC 9051 §9, `uid-set`).
+ghost use Rattle.std.specs.Prelude.{◌≡◌, ℕ, ◌≤◌, ◌||◌, ◌++◌, List, min, max, IfOk, OnOk};
+ghost use Rattle.imap_commands.specs.declared.uid_set.UidRange.{UidRange};
+ghost use Rattle.imap_commands.specs.UidSets.{in_range, has, AreApart, BeginBy, joined};
+
+use std::alloc::{AllocError as Memory, Global};
+use std::marker::Model;
+
+/// The UIDs from the first to the last, both among them.
+#[derive(Clone, Copy, Debug, PartialEq, Eq)]
+pub struct UidRange {
+    pub first: u32,
+    pub last: u32,
+}
+
+impl UidRange {
+    /// The range of two UIDs, which may come in either order.
+    pub fn between(one: u32, other: u32) -> UidRange
+        ensures first { result.first ≡ min one other }
+        ensures last { result.last ≡ max one other }
+    {
+        UidRange {
+            first: one.min(other),
+            last: one.max(other),
+        }
+    }
+}
+
+/// A set of UIDs: ascending ranges that neither touch nor overlap.
+#[derive(Drop)]
+pub struct UidSet {
+    ranges: Vec<UidRange>,
+}
+
+impl Model for UidSet {
+    ghost Value = { List UidRange };
+
+    ghost view = { λ set. set.ranges.items };
+
+    ghost invariant = { λ set. AreApart set.ranges.items };
+}
+
+impl UidSet {
+    /// The UIDs of any of the ranges, which come in any order and may overlap. A range whose last UID is below its first has none.
+    pub fn of(alloc: Global, mut ranges: Vec<UidRange>) -> Result<UidSet, Memory>
+        ensures { IfOk result (λ set. (uid : ℕ) → has uid set ≡ has uid ranges.items) }
+    {
+        ranges.sort_unstable_by_key(|range| range.first);
+        let mut merged = Vec::new(alloc);
+        for range in &ranges {
+            add(&mut merged, *range)?;
+        }
+        Ok(UidSet { ranges: merged })
+    }
+
+    /// Whether a UID is in the set: found by halving, with no memory.
+    pub fn contains(&self, uid: u32) -> bool
+        ensures { result ≡ has uid self.now }
+    {
+        let next = self.ranges.partition_point(|range| range.last < uid);
+        match self.ranges.get(next) {
+            Some(range) => range.first <= uid,
+            None => false,
+        }
+    }
+
+    pub fn ranges(&self) -> &[UidRange]
+        ensures same { result.now ≡ self.now }
+        ensures apart { AreApart result.now }
+    {
+        &self.ranges
+    }
+}
+
+/// Adds a range that begins no earlier than the others.
+fn add(merged: &mut Vec<UidRange>, range: UidRange) -> Result<(), Memory>
+    requires apart { AreApart merged.old.items }
+    requires latest { BeginBy range.first merged.old.items }
+    ensures apart { OnOk result (AreApart merged.new.items) }
+    ensures latest { OnOk result (BeginBy range.first merged.new.items) }
+    ensures members { OnOk result ((uid : ℕ) → has uid merged.new.items ≡ (has uid merged.old.items || in_range uid range)) }
+{
+    if range.last < range.first {
+        return Ok(());
+    }
+    match merged.pop() {
+        Some(before) => push_joined(merged, before, range),
+        None => {
+            merged.push(range)?;
+            Ok(())
+        }
+    }
+}
+
+fn push_joined(merged: &mut Vec<UidRange>, before: UidRange, after: UidRange) -> Result<(), Memory>
+    ensures { OnOk result (merged.new.items ≡ merged.old.items ++ joined before after) }
+{
+    if after.first <= before.last.saturating_add(1) {
+        merged.push(UidRange {
+            first: before.first,
+            last: before.last.max(after.last),
+        })?;
+    } else {
+        merged.push(before)?;
+        merged.push(after)?;
+    }
+    Ok(())
+}

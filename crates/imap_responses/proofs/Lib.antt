@@ -1,0 +1,4 @@
+pub mod WordLemmas
+pub mod QuotedLemmas
+pub mod ValueLemmas
+pub mod ItemLemmas

@@ -1,0 +1,9 @@
+pub mod Slices
+pub mod Things
+pub mod Words
+pub mod Strings
+pub mod Values
+pub mod Dates
+pub mod Codes
+pub mod Items
+pub mod Response

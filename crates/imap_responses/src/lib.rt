@@ -1,0 +1,23 @@
+//! What an IMAP4rev2 server says (RFC 9051 §7): one whole unit of its stream read as a response, with QRESYNC and CONDSTORE
+//! (RFC 7162) and extended searches (RFC 4731).
+#![tactic(auto)]
+
+mod codes;
+mod dates;
+mod fetch;
+mod items;
+mod reading;
+mod response;
+mod slices;
+mod states;
+mod stop;
+mod strings;
+mod untagged;
+mod values;
+mod words;
+
+pub use items::Items;
+pub use reading::read_response;
+pub use response::{Code, Item, Lent, Response, Word};
+pub use slices::Slices;
+pub use std::alloc::AllocError as Memory;

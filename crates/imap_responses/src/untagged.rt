@@ -1,0 +1,142 @@
+//! Untagged responses, behind their `* ` (RFC 9051 §7.2 to §7.5).
+
+ghost use Rattle.std.specs.Prelude.{◌≡◌};
+ghost use Rattle.imap_responses.specs.Words.{Gives};
+ghost use Rattle.imap_responses.specs.Response.{data_of, kind_of, line_words_of, named_of, count_of, fetch_of, counted_of, numbered_of, untagged_of};
+
+use crate::fetch::listed;
+use crate::response::Response;
+use crate::slices::Slices;
+use crate::states::{read_state, state};
+use crate::stop::Stop;
+use crate::words::{Class, byte, end, is, is_all, number, some_run, text, words};
+use std::alloc::Global;
+
+/// The words that are read.
+#[derive(Clone, Copy, Debug, PartialEq, Eq)]
+pub enum Kind {
+    Capability,
+    Enabled,
+    List,
+    Vanished,
+    Esearch,
+    Other,
+}
+
+/// The words that are read behind a number.
+#[derive(Clone, Copy, Debug, PartialEq, Eq)]
+pub enum Count {
+    Exists,
+    Expunge,
+    Fetch,
+    Other,
+}
+
+#[tactic(auto, unfolding(crate::specs::Response::kind_of))]
+fn read_kind(word: &[u8]) -> Kind
+    ensures { result ≡ kind_of word.now }
+{
+    if is(word, b"capability") {
+        Kind::Capability
+    } else if is(word, b"enabled") {
+        Kind::Enabled
+    } else if is(word, b"list") {
+        Kind::List
+    } else if is(word, b"vanished") {
+        Kind::Vanished
+    } else if is(word, b"esearch") {
+        Kind::Esearch
+    } else {
+        Kind::Other
+    }
+}
+
+#[tactic(auto, unfolding(crate::specs::Response::count_of))]
+fn read_count(word: &[u8]) -> Count
+    ensures { result ≡ count_of word.now }
+{
+    if is(word, b"exists") {
+        Count::Exists
+    } else if is(word, b"expunge") {
+        Count::Expunge
+    } else if is(word, b"fetch") {
+        Count::Fetch
+    } else {
+        Count::Other
+    }
+}
+
+/// The words on the line of CAPABILITY or ENABLED.
+#[tactic(auto, unfolding(crate::specs::Response::line_words_of))]
+fn line_words(alloc: Global, rest: &[u8]) -> Result<Slices<'_>, Stop>
+    ensures { Gives (λ x. x) result (line_words_of rest.now) }
+{
+    let text = text(rest)?;
+    if !is_all(Class::Line, text) {
+        return Err(Stop::No);
+    }
+    Ok(words(alloc, text)?)
+}
+
+fn named(alloc: Global, kind: Kind, rest: &[u8]) -> Result<Response<'_>, Stop>
+    ensures { Gives data_of result (named_of kind rest.now) }
+{
+    match kind {
+        Kind::Capability => Ok(Response::Capability(line_words(alloc, rest)?)),
+        Kind::Enabled => Ok(Response::Enabled(line_words(alloc, rest)?)),
+        _ => Ok(Response::Other),
+    }
+}
+
+fn fetch(alloc: Global, number: u32, rest: &[u8]) -> Result<Response<'_>, Stop>
+    ensures { Gives data_of result (fetch_of number rest.now) }
+{
+    let list = byte(rest, b' ')?;
+    let inner = byte(list, b'(')?;
+    let (items, after) = listed(alloc, inner)?;
+    end(after)?;
+    Ok(Response::Fetch { number, items })
+}
+
+fn counted(alloc: Global, count: Count, number: u32, rest: &[u8]) -> Result<Response<'_>, Stop>
+    ensures { Gives data_of result (counted_of count number rest.now) }
+{
+    match count {
+        Count::Exists => {
+            end(rest)?;
+            Ok(Response::Exists(number))
+        }
+        Count::Expunge => {
+            end(rest)?;
+            Ok(Response::Expunge(number))
+        }
+        Count::Fetch => fetch(alloc, number, rest),
+        Count::Other => Ok(Response::Other),
+    }
+}
+
+/// A number and a word.
+#[tactic(auto, unfolding(crate::specs::Response::numbered_of))]
+fn numbered<'a>(alloc: Global, digits: &'a [u8], bytes: &'a [u8]) -> Result<Response<'a>, Stop>
+    ensures { Gives data_of result (numbered_of digits.now bytes.now) }
+{
+    let (n, _) = number(digits, 4_294_967_295)?;
+    let n = n as u32;
+    let rest = byte(bytes, b' ')?;
+    let (word, rest) = some_run(Class::Word, rest)?;
+    counted(alloc, read_count(word), n, rest)
+}
+
+#[tactic(auto, unfolding(crate::specs::Response::untagged_of))]
+pub fn untagged(alloc: Global, bytes: &[u8]) -> Result<Response<'_>, Stop>
+    ensures { Gives data_of result (untagged_of bytes.now) }
+{
+    let (word, rest) = some_run(Class::Word, bytes)?;
+    if is_all(Class::Digit, word) {
+        return numbered(alloc, word, rest);
+    }
+    match read_state(word) {
+        Some(known) => state(known, rest),
+        None => named(alloc, read_kind(word), rest),
+    }
+}
