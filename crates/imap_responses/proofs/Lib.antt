@@ -2,3 +2,4 @@ pub mod WordLemmas
 pub mod QuotedLemmas
 pub mod ValueLemmas
 pub mod ItemLemmas
+pub mod TalkLemmas

@@ -7,3 +7,5 @@ pub mod Dates
 pub mod Codes
 pub mod Items
 pub mod Response
+pub mod Readings
+pub mod Talks

@@ -4,20 +4,28 @@
 
 mod codes;
 mod dates;
+mod fault;
 mod fetch;
 mod items;
+mod laws;
+mod reader;
 mod reading;
 mod response;
 mod slices;
 mod states;
 mod stop;
+mod stream;
 mod strings;
 mod untagged;
 mod values;
 mod words;
 
+pub use fault::ReadFault;
 pub use items::Items;
+pub use laws::one_split;
+pub use reader::Reader;
 pub use reading::read_response;
 pub use response::{Code, Item, Lent, Response, Word};
 pub use slices::Slices;
 pub use std::alloc::AllocError as Memory;
+pub use stream::response_units;
