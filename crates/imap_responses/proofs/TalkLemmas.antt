@@ -63,3 +63,7 @@ ends_apart rest open_rest damage = elim damage [
   | inl long ↦ open_not_long rest open_rest long
   | inr b ↦ open_none b.unit b.more b.whole (subst IsOpen b.begins open_rest)
 ]
+
+-- each response takes bytes: the measure of a loop that goes through them
+pub answered_less : (old new : Reading) (answer : Result Bool ReadFault) (more : Bool) → answer ≡ Ok more → more ≡ true → Advances old answer new → length new.cut.rest < length old.cut.rest
+answered_less old new answer more is test a = gives_less old.cut new.cut (answers_of old new answer more is test a).unit
