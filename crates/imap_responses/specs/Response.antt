@@ -1,5 +1,5 @@
 -- One whole unit of a server's stream as a response (RFC 9051 §7, RFC 7162, RFC 4731).
-use Rattle.std.specs.Prelude.{◌≡◌, ℕ, ◌-◌, Bool, true, false, ◌&&◌, ◌==◌, if◌then◌else◌, List, [], ◌∷◌, length, take, codes, Option, Some, None, Result, Ok, Err}
+use Rattle.std.specs.Prelude.{◌≡◌, ℕ, ◌-◌, Bool, true, false, ◌&&◌, ◌||◌, ◌==◌, if◌then◌else◌, List, [], ◌∷◌, length, take, drop, codes, Option, Some, None, Result, Ok, Err}
 use Rattle.imap_responses.specs.declared.response.Word.{Word}
 use Rattle.imap_responses.specs.declared.response.Word.TheVariants as words
 use Rattle.imap_responses.specs.declared.response.Code.{Code}
@@ -10,7 +10,8 @@ use Rattle.imap_responses.specs.declared.untagged.Kind.TheVariants as kinds
 use Rattle.imap_responses.specs.declared.untagged.Count.{Count}
 use Rattle.imap_responses.specs.declared.untagged.Count.TheVariants as counts
 use Rattle.imap_responses.specs.declared.words.Class.TheVariants as classes
-use Rattle.imap_responses.specs.Words.{◌>>=◌, same, run_at, is_all, some_run_at, byte_at, end_at, number_at, words_of, text_at}
+use Rattle.imap_responses.specs.Words.{◌>>=◌, same, run_at, is_all, some_run_at, byte_at, end_at, number_at, words_of, group_at, text_at}
+use Rattle.imap_responses.specs.Strings.{raw_at, string_at, is_nil}
 use Rattle.imap_responses.specs.Things.{Thing, bytes_of}
 use Rattle.imap_responses.specs.Codes.{unspaced, coded}
 use Rattle.imap_responses.specs.Items.{listed_at}
@@ -109,9 +110,30 @@ kind_of word =
 unfoldable pub line_words_of : List ℕ → Option (List (List ℕ))
 line_words_of rest = text_at rest >>= λ text. if is_all classes.Line text then Some (words_of text) else None
 
+-- NIL or a quoted string, of which nothing is told
+unfoldable pub separator_at : List ℕ → Option (List ℕ)
+separator_at bytes = if is_nil bytes then Some (drop 3 bytes) else (byte_at 34 bytes >>= λ text. raw_at text >>= λ x. Some x.1)
+
+abbrev pub begins_string : List ℕ → Bool
+begins_string [] = false
+begins_string (c ∷ bytes) = c == 34 || c == 123
+
+-- a string, or all bytes up to a space
+unfoldable pub mailbox_at : List ℕ → Option (List ℕ × List ℕ)
+mailbox_at bytes = if begins_string bytes then string_at bytes else some_run_at classes.Word bytes
+
+-- attributes in parentheses
+unfoldable pub attributes_at : List ℕ → Option (List (List ℕ) × List ℕ)
+attributes_at rest = byte_at 32 rest >>= λ list. byte_at 40 list >>= λ inner. group_at inner
+
+-- a mailbox; anything may follow it (RFC 9051 §7.3.1)
+unfoldable pub list_of : List ℕ → Option Data
+list_of rest = attributes_at rest >>= λ attributes. byte_at 32 attributes.1 >>= λ a. separator_at a >>= λ b. byte_at 32 b >>= λ c. mailbox_at c >>= λ name. Some (Listed attributes.0 name.0)
+
 abbrev pub named_of : Kind → List ℕ → Option Data
 named_of kinds.Capability rest = line_words_of rest >>= λ words. Some (Capability words)
 named_of kinds.Enabled rest = line_words_of rest >>= λ words. Some (Enabled words)
+named_of kinds.List rest = list_of rest
 named_of kind rest = Some Other
 
 abbrev pub state_or_named : Option Word → List ℕ → List ℕ → Option Data
