@@ -2,3 +2,5 @@ pub mod WordLemmas
 pub mod QuotedLemmas
 pub mod ValueLemmas
 pub mod ItemLemmas
+pub mod SetLemmas
+pub mod PairLemmas

@@ -8,6 +8,8 @@ mod fetch;
 mod items;
 mod reading;
 mod response;
+mod searches;
+mod sets;
 mod slices;
 mod states;
 mod stop;

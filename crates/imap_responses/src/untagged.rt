@@ -3,15 +3,17 @@
 ghost use Rattle.std.specs.Prelude.{◌≡◌};
 ghost use Rattle.imap_responses.specs.Things.{bytes_of};
 ghost use Rattle.imap_responses.specs.Words.{Gives};
-ghost use Rattle.imap_responses.specs.Response.{data_of, kind_of, line_words_of, separator_at, mailbox_at, attributes_at, list_of, named_of, count_of, fetch_of, counted_of, numbered_of, untagged_of};
+ghost use Rattle.imap_responses.specs.Response.{data_of, kind_of, line_words_of, separator_at, mailbox_at, attributes_at, list_of, earlier_at, vanished_of, esearch_of, named_of, count_of, fetch_of, counted_of, numbered_of, untagged_of};
 
 use crate::fetch::listed;
 use crate::response::{Lent, Response};
+use crate::searches::search;
+use crate::sets::set;
 use crate::slices::Slices;
 use crate::states::{read_state, state};
 use crate::stop::Stop;
-use crate::strings::{is_nil, raw, string};
-use crate::words::{Class, byte, end, group, is, is_all, number, some_run, text, words};
+use crate::strings::{begins_string, is_nil, raw, string};
+use crate::words::{Class, begins, byte, end, group, is, is_all, number, some_run, text, words};
 use std::alloc::Global;
 
 /// The words that are read.
@@ -98,13 +100,11 @@ fn separator(bytes: &[u8]) -> Result<&[u8], Stop>
 fn mailbox(alloc: Global, bytes: &[u8]) -> Result<(Lent<'_>, &[u8]), Stop>
     ensures { Gives (λ x. (bytes_of x.0, x.1.now)) result (mailbox_at bytes.now) }
 {
-    match bytes {
-        [b'"' | b'{', ..] => string(alloc, bytes),
-        _ => {
-            let (name, rest) = some_run(Class::Word, bytes)?;
-            Ok((Lent::Slice(name), rest))
-        }
+    if begins_string(bytes) {
+        return string(alloc, bytes);
     }
+    let (name, rest) = some_run(Class::Word, bytes)?;
+    Ok((Lent::Slice(name), rest))
 }
 
 #[tactic(auto, unfolding(crate::specs::Response::attributes_at))]
@@ -127,6 +127,36 @@ fn list(alloc: Global, rest: &[u8]) -> Result<Response<'_>, Stop>
     Ok(Response::List { attributes, name })
 }
 
+/// Whether (EARLIER) stands in front, and what follows it.
+#[tactic(auto, unfolding(crate::specs::Response::earlier_at))]
+fn earlier(bytes: &[u8]) -> (bool, &[u8])
+    ensures earlier { result.0 ≡ (earlier_at bytes.now).0 }
+    ensures rest { result.1.now ≡ (earlier_at bytes.now).1 }
+{
+    if begins(bytes, b"(earlier) ") {
+        return (true, &bytes[10..]);
+    }
+    (false, bytes)
+}
+
+/// UIDs that are gone (RFC 7162 §3.2.10).
+#[tactic(auto, unfolding(crate::specs::Response::vanished_of))]
+fn vanished(alloc: Global, rest: &[u8]) -> Result<Response<'_>, Stop>
+    ensures { Gives data_of result (vanished_of rest.now) }
+{
+    let (earlier, bytes) = earlier(byte(rest, b' ')?);
+    let (set, after) = set(alloc, bytes)?;
+    end(after)?;
+    Ok(Response::Vanished { earlier, set })
+}
+
+fn esearch(alloc: Global, rest: &[u8]) -> Result<Response<'_>, Stop>
+    ensures { Gives data_of result (esearch_of rest.now) }
+{
+    let (tag, set) = search(alloc, rest)?;
+    Ok(Response::Esearch { tag, set })
+}
+
 fn named(alloc: Global, kind: Kind, rest: &[u8]) -> Result<Response<'_>, Stop>
     ensures { Gives data_of result (named_of kind rest.now) }
 {
@@ -134,7 +164,9 @@ fn named(alloc: Global, kind: Kind, rest: &[u8]) -> Result<Response<'_>, Stop>
         Kind::Capability => Ok(Response::Capability(line_words(alloc, rest)?)),
         Kind::Enabled => Ok(Response::Enabled(line_words(alloc, rest)?)),
         Kind::List => list(alloc, rest),
-        _ => Ok(Response::Other),
+        Kind::Vanished => vanished(alloc, rest),
+        Kind::Esearch => esearch(alloc, rest),
+        Kind::Other => Ok(Response::Other),
     }
 }
 
