@@ -3,3 +3,5 @@ pub mod QuotedLemmas
 pub mod ValueLemmas
 pub mod ItemLemmas
 pub mod TalkLemmas
+pub mod SetLemmas
+pub mod PairLemmas

@@ -1,9 +1,9 @@
 -- A value, token after token.
-use Rattle.std.proofs.Common.{◌≡◌, ℕ, zero, suc, ◌+◌, ◌-◌, ◌<◌, ◌≤◌, Bool, true, false, eqb, cond, List, [], ◌∷◌, length, refl, sym, ap, ◌∙◌, arith, Option, Some, None}
+use Rattle.std.proofs.Common.{◌≡◌, ℕ, suc, ◌+◌, ◌-◌, ◌<◌, ◌≤◌, Bool, false, eqb, cond, List, refl, sym, ap, ◌∙◌, arith, Option, Some, None}
 use Rattle.imap_responses.specs.declared.stop.Stop.{Stop}
 use Rattle.imap_responses.specs.declared.stop.Stop.TheVariants as stops
 use Rattle.imap_responses.specs.declared.values.Token.{Token}
-use Rattle.imap_responses.specs.Words.{◌>>=◌, Stops}
+use Rattle.imap_responses.specs.Words.{Stops}
 use Rattle.imap_responses.specs.Values.{token_at, deeper, closed_at}
 
 one_less : (count k : ℕ) → k < count → count - k ≡ suc (count - (k + 1))

@@ -1,5 +1,5 @@
 -- The code in the brackets of a state (RFC 9051 §7.1, RFC 7162 §3.1.2).
-use Rattle.std.specs.Prelude.{◌≡◌, ℕ, ◌==◌, if◌then◌else◌, List, [], ◌∷◌, codes, Option, Some, None}
+use Rattle.std.specs.Prelude.{ℕ, ◌==◌, if◌then◌else◌, List, [], ◌∷◌, codes, Option, Some, None}
 use Rattle.imap_responses.specs.declared.response.Code.{Code}
 use Rattle.imap_responses.specs.declared.response.Code.TheVariants as coding
 use Rattle.imap_responses.specs.declared.codes.Name.{Name}

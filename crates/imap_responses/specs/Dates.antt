@@ -1,5 +1,5 @@
 -- The moment of an INTERNALDATE (RFC 9051 §9, date-time).
-use Rattle.std.specs.Prelude.{◌≡◌, ℕ, ℤ, pos, Bool, true, false, ◌&&◌, ◌||◌, ◌==◌, nat_le, if◌then◌else◌, List, [], ◌∷◌, length, set, codes, Result, Ok, Err, int_div}
+use Rattle.std.specs.Prelude.{ℕ, ℤ, pos, Bool, true, false, ◌&&◌, ◌||◌, ◌==◌, nat_le, if◌then◌else◌, List, ◌∷◌, length, set, codes, Result, Ok, Err, int_div}
 use Rattle.imap_responses.specs.Words.{is_digit}
 use Rattle.jiff_core.specs.declared.error.Error.{Error}
 use Rattle.jiff_fmt.specs.Rfc2822.{timestamp}

@@ -2,9 +2,11 @@
 use Rattle.std.specs.Prelude.{ℕ, zero, suc, ◌+◌, Bool, true, false, not, ◌||◌, ◌==◌, if◌then◌else◌, List, [], ◌∷◌, ◌++◌, length, take, drop, codes, Option, Some, None}
 use Rattle.imap_responses.specs.declared.fetch.Name.{Name}
 use Rattle.imap_responses.specs.declared.fetch.Name.TheVariants as names
-use Rattle.imap_responses.specs.Things.{Thing, Uid, Flags, Header, Body, OtherItem}
-use Rattle.imap_responses.specs.Words.{◌>>=◌, same, begins, byte_at, positive_at, group_at, is_line_end}
+use Rattle.imap_responses.specs.Things.{Thing, Uid, Flags, Modseq, Internal, Size, Header, Body, OtherItem}
+use Rattle.imap_responses.specs.Words.{◌>>=◌, same, begins, byte_at, number_at, positive_at, group_at, is_line_end}
 use Rattle.imap_responses.specs.Strings.{string_at, nstring_at}
+use Rattle.imap_responses.specs.Values.{value_at}
+use Rattle.imap_responses.specs.Dates.{moment_of}
 
 -- ---- names: what stands before the next space that is not between [ and ]
 
@@ -42,14 +44,27 @@ abbrev pub body_at : List ℕ → Option (Thing × List ℕ)
 body_at bytes = nstring_at bytes >>= λ text. Some (Body text.0, text.1)
 
 abbrev pub other_at : List ℕ → Option (Thing × List ℕ)
-other_at bytes = string_at bytes >>= λ text. Some (OtherItem, text.1)
+other_at bytes = value_at bytes >>= λ rest. Some (OtherItem, rest)
+
+-- a MODSEQ in parentheses
+abbrev pub modseq_at : List ℕ → Option (Thing × List ℕ)
+modseq_at bytes = byte_at 40 bytes >>= λ inner. positive_at 9223372036854775807 inner >>= λ n. byte_at 41 n.1 >>= λ rest. Some (Modseq n.0, rest)
+
+abbrev pub internal_at : List ℕ → Option (Thing × List ℕ)
+internal_at bytes = string_at bytes >>= λ text. Some (Internal (moment_of text.0), text.1)
+
+abbrev pub size_at : List ℕ → Option (Thing × List ℕ)
+size_at bytes = number_at 9223372036854775807 bytes >>= λ n. Some (Size n.0, n.1)
 
 abbrev pub valued_at : Name → List ℕ → Option (Thing × List ℕ)
 valued_at names.Uid bytes = uid_at bytes
 valued_at names.Flags bytes = flags_at bytes
+valued_at names.Modseq bytes = modseq_at bytes
+valued_at names.Internaldate bytes = internal_at bytes
+valued_at names.Size bytes = size_at bytes
 valued_at names.Header bytes = header_at bytes
 valued_at names.Body bytes = body_at bytes
-valued_at name bytes = other_at bytes
+valued_at names.Other bytes = other_at bytes
 
 -- ---- items
 

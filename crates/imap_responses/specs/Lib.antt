@@ -6,6 +6,8 @@ pub mod Values
 pub mod Dates
 pub mod Codes
 pub mod Items
+pub mod Sets
+pub mod Searches
 pub mod Response
 pub mod Readings
 pub mod Talks

@@ -1,5 +1,5 @@
 -- One whole unit of a server's stream as a response (RFC 9051 §7, RFC 7162, RFC 4731).
-use Rattle.std.specs.Prelude.{◌≡◌, ℕ, ◌-◌, Bool, true, false, ◌&&◌, ◌==◌, if◌then◌else◌, List, [], ◌∷◌, length, take, codes, Option, Some, None, Result, Ok, Err}
+use Rattle.std.specs.Prelude.{◌≡◌, ℕ, ◌-◌, Bool, true, false, ◌&&◌, ◌==◌, if◌then◌else◌, List, [], ◌∷◌, length, take, drop, codes, Option, Some, None, Result, Ok, Err}
 use Rattle.imap_responses.specs.declared.response.Word.{Word}
 use Rattle.imap_responses.specs.declared.response.Word.TheVariants as words
 use Rattle.imap_responses.specs.declared.response.Code.{Code}
@@ -10,10 +10,13 @@ use Rattle.imap_responses.specs.declared.untagged.Kind.TheVariants as kinds
 use Rattle.imap_responses.specs.declared.untagged.Count.{Count}
 use Rattle.imap_responses.specs.declared.untagged.Count.TheVariants as counts
 use Rattle.imap_responses.specs.declared.words.Class.TheVariants as classes
-use Rattle.imap_responses.specs.Words.{◌>>=◌, same, run_at, is_all, some_run_at, byte_at, end_at, number_at, words_of, text_at}
+use Rattle.imap_responses.specs.Words.{◌>>=◌, same, begins, run_at, is_all, some_run_at, byte_at, end_at, number_at, words_of, group_at, text_at}
+use Rattle.imap_responses.specs.Strings.{raw_at, string_at, begins_string, is_nil}
 use Rattle.imap_responses.specs.Things.{Thing, bytes_of}
 use Rattle.imap_responses.specs.Codes.{unspaced, coded}
 use Rattle.imap_responses.specs.Items.{listed_at}
+use Rattle.imap_responses.specs.Sets.{members, members_or_none, set_at}
+use Rattle.imap_responses.specs.Searches.{search_of}
 
 -- a response, without where its bytes lie in memory
 pub data Data : Type 0 where
@@ -26,6 +29,9 @@ pub data Data : Type 0 where
   Exists : ℕ → Data
   Expunge : ℕ → Data
   Fetch : ℕ → List Thing → Data
+  -- a set is the test of what is in it
+  Vanished : Bool → (ℕ → Bool) → Data
+  Esearch : List ℕ → Option (ℕ → Bool) → Data
   Other : Data
 
 abbrev pub data_of : Response → Data
@@ -38,6 +44,8 @@ data_of (responses.List attributes name) = Listed attributes (bytes_of name)
 data_of (responses.Exists n) = Exists n
 data_of (responses.Expunge n) = Expunge n
 data_of (responses.Fetch n items) = Fetch n items
+data_of (responses.Vanished earlier set) = Vanished earlier (members set)
+data_of (responses.Esearch tag set) = Esearch (bytes_of tag) (members_or_none set)
 data_of responses.Other = Other
 
 -- what read_response gave is what the definition reads
@@ -109,10 +117,40 @@ kind_of word =
 unfoldable pub line_words_of : List ℕ → Option (List (List ℕ))
 line_words_of rest = text_at rest >>= λ text. if is_all classes.Line text then Some (words_of text) else None
 
+-- NIL or a quoted string, of which nothing is told
+unfoldable pub separator_at : List ℕ → Option (List ℕ)
+separator_at bytes = if is_nil bytes then Some (drop 3 bytes) else (byte_at 34 bytes >>= λ text. raw_at text >>= λ x. Some x.1)
+
+-- a string, or all bytes up to a space
+unfoldable pub mailbox_at : List ℕ → Option (List ℕ × List ℕ)
+mailbox_at bytes = if begins_string bytes then string_at bytes else some_run_at classes.Word bytes
+
+-- attributes in parentheses
+unfoldable pub attributes_at : List ℕ → Option (List (List ℕ) × List ℕ)
+attributes_at rest = byte_at 32 rest >>= λ list. byte_at 40 list >>= λ inner. group_at inner
+
+-- a mailbox; anything may follow it (RFC 9051 §7.3.1)
+unfoldable pub list_of : List ℕ → Option Data
+list_of rest = attributes_at rest >>= λ attributes. byte_at 32 attributes.1 >>= λ a. separator_at a >>= λ b. byte_at 32 b >>= λ c. mailbox_at c >>= λ name. Some (Listed attributes.0 name.0)
+
+-- (EARLIER) may stand in front
+unfoldable pub earlier_at : List ℕ → Bool × List ℕ
+earlier_at bytes = if begins (codes "(earlier) ") bytes then (true, drop 10 bytes) else (false, bytes)
+
+-- UIDs that are gone (RFC 7162 §3.2.10)
+unfoldable pub vanished_of : List ℕ → Option Data
+vanished_of rest = byte_at 32 rest >>= λ a. let e = earlier_at a in set_at e.1 >>= λ set. end_at set.1 >>= λ u. Some (Vanished e.0 set.0)
+
+abbrev pub esearch_of : List ℕ → Option Data
+esearch_of rest = search_of rest >>= λ s. Some (Esearch s.0 s.1)
+
 abbrev pub named_of : Kind → List ℕ → Option Data
 named_of kinds.Capability rest = line_words_of rest >>= λ words. Some (Capability words)
 named_of kinds.Enabled rest = line_words_of rest >>= λ words. Some (Enabled words)
-named_of kind rest = Some Other
+named_of kinds.List rest = list_of rest
+named_of kinds.Vanished rest = vanished_of rest
+named_of kinds.Esearch rest = esearch_of rest
+named_of kinds.Other rest = Some Other
 
 abbrev pub state_or_named : Option Word → List ℕ → List ℕ → Option Data
 state_or_named (Some state) word rest = untagged_state_of state rest

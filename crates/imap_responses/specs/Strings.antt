@@ -1,5 +1,5 @@
 -- Strings (RFC 9051 §4.3): quoted, or a literal with the number of its octets in front.
-use Rattle.std.specs.Prelude.{◌≡◌, ◌≤◌, ℕ, ◌+◌, Bool, true, false, not, ◌&&◌, ◌==◌, nat_lt, nat_le, if◌then◌else◌, List, [], ◌∷◌, ◌++◌, length, take, drop, codes, Option, Some, None}
+use Rattle.std.specs.Prelude.{◌≡◌, ◌≤◌, ℕ, ◌+◌, Bool, true, false, not, ◌&&◌, ◌||◌, ◌==◌, nat_lt, nat_le, if◌then◌else◌, List, [], ◌∷◌, ◌++◌, length, take, drop, codes, Option, Some, None}
 use Rattle.imap_responses.specs.declared.words.Class.TheVariants as classes
 use Rattle.imap_responses.specs.Words.{◌>>=◌, same, is_all, number_at}
 
@@ -43,6 +43,10 @@ literal_at bytes = number_at 33554432 bytes >>= λ n. octets_at n.0 n.1
 unfoldable pub string_at : List ℕ → Option (List ℕ × List ℕ)
 string_at [] = None
 string_at (c ∷ bytes) = if c == 34 then quoted_at bytes else (if c == 123 then literal_at bytes else None)
+
+abbrev pub begins_string : List ℕ → Bool
+begins_string [] = false
+begins_string (c ∷ bytes) = c == 34 || c == 123
 
 abbrev pub is_nil : List ℕ → Bool
 is_nil bytes = nat_le 3 (length bytes) && same (codes "nil") (take 3 bytes)

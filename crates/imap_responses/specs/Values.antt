@@ -1,5 +1,5 @@
 -- Values of any kind: a string, an atom, or a list in parentheses, nested to any depth (RFC 9051 §4).
-use Rattle.std.specs.Prelude.{◌≡◌, ℕ, zero, suc, ◌+◌, ◌-◌, ◌==◌, if◌then◌else◌, List, [], ◌∷◌, length, Option, Some, None}
+use Rattle.std.specs.Prelude.{ℕ, zero, suc, ◌+◌, ◌-◌, ◌==◌, if◌then◌else◌, List, [], ◌∷◌, length, Option, Some, None}
 use Rattle.imap_responses.specs.declared.values.Token.{Token}
 use Rattle.imap_responses.specs.declared.values.Token.TheVariants as tokens
 use Rattle.imap_responses.specs.declared.words.Class.TheVariants as classes

@@ -3,13 +3,15 @@
 ghost use Rattle.std.specs.Prelude.{◌≡◌, ◌≤◌, false, length};
 ghost use Rattle.imap_responses.specs.Things.{thing_of, things_of};
 ghost use Rattle.imap_responses.specs.Words.{Gives};
-ghost use Rattle.imap_responses.specs.Items.{name_len as len_of_name, name_at, name_of, uid_at, flags_at, header_at, body_at, other_at, valued_at, item_at, after_at, items_at, listed_at};
+ghost use Rattle.imap_responses.specs.Items.{name_len as len_of_name, name_at, name_of, uid_at, flags_at, header_at, body_at, modseq_at, internal_at, size_at, other_at, valued_at, item_at, after_at, items_at, listed_at};
 
+use crate::dates::moment;
 use crate::items::Items;
 use crate::response::Item;
 use crate::stop::Stop;
 use crate::strings::{nstring, string};
-use crate::words::{begins, byte, group, is, positive};
+use crate::values::after_value;
+use crate::words::{begins, byte, group, is, number, positive};
 use std::alloc::Global;
 
 /// The names of items that are read.
@@ -103,10 +105,33 @@ fn body(alloc: Global, bytes: &[u8]) -> Result<(Item<'_>, &[u8]), Stop>
     Ok((Item::Body(text), rest))
 }
 
-fn other(alloc: Global, bytes: &[u8]) -> Result<(Item<'_>, &[u8]), Stop>
+fn modseq(bytes: &[u8]) -> Result<(Item<'_>, &[u8]), Stop>
+    ensures { Gives (λ x. (thing_of x.0, x.1.now)) result (modseq_at bytes.now) }
+{
+    let inner = byte(bytes, b'(')?;
+    let (n, rest) = positive(inner, 9_223_372_036_854_775_807)?;
+    let after = byte(rest, b')')?;
+    Ok((Item::Modseq(n), after))
+}
+
+fn internal(alloc: Global, bytes: &[u8]) -> Result<(Item<'_>, &[u8]), Stop>
+    ensures { Gives (λ x. (thing_of x.0, x.1.now)) result (internal_at bytes.now) }
+{
+    let (text, rest) = string(alloc, bytes)?;
+    Ok((Item::Internal(moment(text.as_slice())), rest))
+}
+
+fn size(bytes: &[u8]) -> Result<(Item<'_>, &[u8]), Stop>
+    ensures { Gives (λ x. (thing_of x.0, x.1.now)) result (size_at bytes.now) }
+{
+    let (n, rest) = number(bytes, 9_223_372_036_854_775_807)?;
+    Ok((Item::Size(n), rest))
+}
+
+fn other(bytes: &[u8]) -> Result<(Item<'_>, &[u8]), Stop>
     ensures { Gives (λ x. (thing_of x.0, x.1.now)) result (other_at bytes.now) }
 {
-    let (_, rest) = string(alloc, bytes)?;
+    let rest = after_value(bytes)?;
     Ok((Item::Other, rest))
 }
 
@@ -116,9 +141,12 @@ fn valued(alloc: Global, name: Name, bytes: &[u8]) -> Result<(Item<'_>, &[u8]), 
     match name {
         Name::Uid => uid(bytes),
         Name::Flags => flags(alloc, bytes),
+        Name::Modseq => modseq(bytes),
+        Name::Internaldate => internal(alloc, bytes),
+        Name::Size => size(bytes),
         Name::Header => header(alloc, bytes),
         Name::Body => body(alloc, bytes),
-        _ => other(alloc, bytes),
+        Name::Other => other(bytes),
     }
 }
 

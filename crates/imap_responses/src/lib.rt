@@ -11,6 +11,8 @@ mod laws;
 mod reader;
 mod reading;
 mod response;
+mod searches;
+mod sets;
 mod slices;
 mod states;
 mod stop;

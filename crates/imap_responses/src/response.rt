@@ -5,6 +5,7 @@ ghost use Rattle.imap_responses.specs.Things.{bytes_of};
 
 use crate::items::Items;
 use crate::slices::Slices;
+use imap_commands::UidSet;
 use mail_io::Bytes;
 
 /// The word of a state (RFC 9051 §7.1).
@@ -93,6 +94,16 @@ pub enum Response<'a> {
     Fetch {
         number: u32,
         items: Items<'a>,
+    },
+    /// UIDs that are gone (RFC 7162 §3.2.10): earlier, or now.
+    Vanished {
+        earlier: bool,
+        set: UidSet,
+    },
+    /// An extended search (RFC 4731 §3.1): the tag of the command that asked, and the set that ALL gives.
+    Esearch {
+        tag: Lent<'a>,
+        set: Option<UidSet>,
     },
     /// Any other word.
     Other,

@@ -3,7 +3,7 @@
 ghost use Rattle.std.specs.Prelude.{◌≡◌, ◌≤◌, length, IfOk};
 ghost use Rattle.imap_responses.specs.Things.{bytes_of, bytes_or_nil};
 ghost use Rattle.imap_responses.specs.Words.{Gives};
-ghost use Rattle.imap_responses.specs.Strings.{IsQuoteAt, unescape, raw_at, quoted_at, literal_at, string_at, is_nil as nil, nstring_at};
+ghost use Rattle.imap_responses.specs.Strings.{IsQuoteAt, unescape, raw_at, quoted_at, literal_at, string_at, begins_string as string_begins, is_nil as nil, nstring_at};
 
 use crate::response::Lent;
 use crate::stop::Stop;
@@ -114,6 +114,16 @@ pub fn string(alloc: Global, bytes: &[u8]) -> Result<(Lent<'_>, &[u8]), Stop>
             Ok((Lent::Slice(octets), after))
         }
         _ => Err(Stop::No),
+    }
+}
+
+/// Whether a string begins here.
+pub fn begins_string(bytes: &[u8]) -> bool
+    ensures { result ≡ string_begins bytes.now }
+{
+    match bytes {
+        [b'"' | b'{', ..] => true,
+        _ => false,
     }
 }
 

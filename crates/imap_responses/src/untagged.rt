@@ -1,15 +1,19 @@
 //! Untagged responses, behind their `* ` (RFC 9051 §7.2 to §7.5).
 
 ghost use Rattle.std.specs.Prelude.{◌≡◌};
+ghost use Rattle.imap_responses.specs.Things.{bytes_of};
 ghost use Rattle.imap_responses.specs.Words.{Gives};
-ghost use Rattle.imap_responses.specs.Response.{data_of, kind_of, line_words_of, named_of, count_of, fetch_of, counted_of, numbered_of, untagged_of};
+ghost use Rattle.imap_responses.specs.Response.{data_of, kind_of, line_words_of, separator_at, mailbox_at, attributes_at, list_of, earlier_at, vanished_of, esearch_of, named_of, count_of, fetch_of, counted_of, numbered_of, untagged_of};
 
 use crate::fetch::listed;
-use crate::response::Response;
+use crate::response::{Lent, Response};
+use crate::searches::search;
+use crate::sets::set;
 use crate::slices::Slices;
 use crate::states::{read_state, state};
 use crate::stop::Stop;
-use crate::words::{Class, byte, end, is, is_all, number, some_run, text, words};
+use crate::strings::{begins_string, is_nil, raw, string};
+use crate::words::{Class, begins, byte, end, group, is, is_all, number, some_run, text, words};
 use std::alloc::Global;
 
 /// The words that are read.
@@ -78,13 +82,91 @@ fn line_words(alloc: Global, rest: &[u8]) -> Result<Slices<'_>, Stop>
     Ok(words(alloc, text)?)
 }
 
+/// Behind the separator of a mailbox's levels: NIL or a quoted string.
+#[tactic(auto, unfolding(crate::specs::Response::separator_at))]
+fn separator(bytes: &[u8]) -> Result<&[u8], Stop>
+    ensures { Gives (λ x. x.now) result (separator_at bytes.now) }
+{
+    if is_nil(bytes) {
+        return Ok(&bytes[3..]);
+    }
+    let text = byte(bytes, b'"')?;
+    let (_, rest) = raw(text)?;
+    Ok(rest)
+}
+
+/// The name of a mailbox: a string, or all bytes up to a space.
+#[tactic(auto, unfolding(crate::specs::Response::mailbox_at))]
+fn mailbox(alloc: Global, bytes: &[u8]) -> Result<(Lent<'_>, &[u8]), Stop>
+    ensures { Gives (λ x. (bytes_of x.0, x.1.now)) result (mailbox_at bytes.now) }
+{
+    if begins_string(bytes) {
+        return string(alloc, bytes);
+    }
+    let (name, rest) = some_run(Class::Word, bytes)?;
+    Ok((Lent::Slice(name), rest))
+}
+
+#[tactic(auto, unfolding(crate::specs::Response::attributes_at))]
+fn attributes(alloc: Global, rest: &[u8]) -> Result<(Slices<'_>, &[u8]), Stop>
+    ensures { Gives (λ x. (x.0, x.1.now)) result (attributes_at rest.now) }
+{
+    let list = byte(rest, b' ')?;
+    let inner = byte(list, b'(')?;
+    group(alloc, inner)
+}
+
+/// A mailbox (RFC 9051 §7.3.1).
+#[tactic(auto, unfolding(crate::specs::Response::list_of))]
+fn list(alloc: Global, rest: &[u8]) -> Result<Response<'_>, Stop>
+    ensures { Gives data_of result (list_of rest.now) }
+{
+    let (attributes, rest) = attributes(alloc, rest)?;
+    let rest = separator(byte(rest, b' ')?)?;
+    let (name, _) = mailbox(alloc, byte(rest, b' ')?)?;
+    Ok(Response::List { attributes, name })
+}
+
+/// Whether (EARLIER) stands in front, and what follows it.
+#[tactic(auto, unfolding(crate::specs::Response::earlier_at))]
+fn earlier(bytes: &[u8]) -> (bool, &[u8])
+    ensures earlier { result.0 ≡ (earlier_at bytes.now).0 }
+    ensures rest { result.1.now ≡ (earlier_at bytes.now).1 }
+{
+    if begins(bytes, b"(earlier) ") {
+        return (true, &bytes[10..]);
+    }
+    (false, bytes)
+}
+
+/// UIDs that are gone (RFC 7162 §3.2.10).
+#[tactic(auto, unfolding(crate::specs::Response::vanished_of))]
+fn vanished(alloc: Global, rest: &[u8]) -> Result<Response<'_>, Stop>
+    ensures { Gives data_of result (vanished_of rest.now) }
+{
+    let (earlier, bytes) = earlier(byte(rest, b' ')?);
+    let (set, after) = set(alloc, bytes)?;
+    end(after)?;
+    Ok(Response::Vanished { earlier, set })
+}
+
+fn esearch(alloc: Global, rest: &[u8]) -> Result<Response<'_>, Stop>
+    ensures { Gives data_of result (esearch_of rest.now) }
+{
+    let (tag, set) = search(alloc, rest)?;
+    Ok(Response::Esearch { tag, set })
+}
+
 fn named(alloc: Global, kind: Kind, rest: &[u8]) -> Result<Response<'_>, Stop>
     ensures { Gives data_of result (named_of kind rest.now) }
 {
     match kind {
         Kind::Capability => Ok(Response::Capability(line_words(alloc, rest)?)),
         Kind::Enabled => Ok(Response::Enabled(line_words(alloc, rest)?)),
-        _ => Ok(Response::Other),
+        Kind::List => list(alloc, rest),
+        Kind::Vanished => vanished(alloc, rest),
+        Kind::Esearch => esearch(alloc, rest),
+        Kind::Other => Ok(Response::Other),
     }
 }
 

@@ -1,7 +1,7 @@
-use Rattle.std.proofs.Common.{◌≡◌, ◌+◌, ◌-◌, ◌≤◌, ◌<◌, length, eqb, false, arith}
+use Rattle.std.proofs.Common.{◌≡◌, ◌+◌, ◌≤◌, length, eqb, false, arith}
 use Rattle.std.proofs.lemmas.Bool.Decides.{nat_tests}
 use Rattle.std.proofs.lemmas.Result.{err_from_is_err_and}
-use Rattle.imap_responses.specs.Values.{closed_at, value_at}
+use Rattle.imap_responses.specs.Values.{value_at}
 use Rattle.imap_responses.proofs.ValueLemmas.{no_token, no_depth, closes_here, goes_on, none_left}
 use Rattle.imap_responses.proofs.values.after_value.Goals as goal
 
