@@ -5,3 +5,4 @@ pub mod FieldLemmas
 pub mod StreamLemmas
 pub mod LawLemmas
 pub mod SizeLemmas
+mod UnitExamples

@@ -12,3 +12,6 @@ pub use line::LIMIT;
 pub use reader::{TooLong, UnitReader};
 pub use std::alloc::AllocError as Memory;
 pub use stream::{StreamFault, units_of};
+
+#[cfg(test)]
+mod tests;
