@@ -4,3 +4,4 @@ pub mod ValueLemmas
 pub mod ItemLemmas
 pub mod SetLemmas
 pub mod PairLemmas
+pub mod ResponseExamples

@@ -23,3 +23,6 @@ pub use reading::read_response;
 pub use response::{Code, Item, Lent, Response, Word};
 pub use slices::Slices;
 pub use std::alloc::AllocError as Memory;
+
+#[cfg(test)]
+mod grammar_tests;
