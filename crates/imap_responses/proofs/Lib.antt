@@ -5,3 +5,4 @@ pub mod ItemLemmas
 pub mod TalkLemmas
 pub mod SetLemmas
 pub mod PairLemmas
+pub mod ResponseExamples

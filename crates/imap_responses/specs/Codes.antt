@@ -16,10 +16,16 @@ name_of word =
     else names.Other)))
 
 abbrev pub validity_of : List ℕ → Option Code
-validity_of argument = number_at 4294967295 argument >>= λ n. end_at n.1 >>= λ u. Some (coding.Uidvalidity n.0)
+validity_of argument = do
+  n ← number_at 4294967295 argument
+  u ← end_at n.1
+  Some (coding.Uidvalidity n.0)
 
 abbrev pub modseq_of : List ℕ → Option Code
-modseq_of argument = positive_at 9223372036854775807 argument >>= λ n. end_at n.1 >>= λ u. Some (coding.Highestmodseq n.0)
+modseq_of argument = do
+  n ← positive_at 9223372036854775807 argument
+  u ← end_at n.1
+  Some (coding.Highestmodseq n.0)
 
 abbrev pub meant : Name → List ℕ → Option Code
 meant names.Uidvalidity argument = validity_of argument
@@ -38,7 +44,12 @@ unspaced [] = []
 unspaced (c ∷ text) = if c == 32 then text else c ∷ text
 
 unfoldable pub code_at : List ℕ → Option (Code × List ℕ)
-code_at text = byte_at 91 text >>= λ inner. some_run_at classes.CodeWord inner >>= λ word. argument_at word.1 >>= λ a. meant (name_of word.0) a.0 >>= λ code. Some (code, unspaced a.1)
+code_at text = do
+  inner ← byte_at 91 text
+  word ← some_run_at classes.CodeWord inner
+  a ← argument_at word.1
+  code ← meant (name_of word.0) a.0
+  Some (code, unspaced a.1)
 
 abbrev pub code_or : Option (Code × List ℕ) → List ℕ → Option Code × List ℕ
 code_or None text = (None, text)

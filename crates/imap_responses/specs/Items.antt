@@ -35,7 +35,10 @@ abbrev pub uid_at : List ℕ → Option (Thing × List ℕ)
 uid_at bytes = positive_at 4294967295 bytes >>= λ n. Some (Uid n.0, n.1)
 
 abbrev pub flags_at : List ℕ → Option (Thing × List ℕ)
-flags_at bytes = byte_at 40 bytes >>= λ rest. group_at rest >>= λ words. Some (Flags words.0, words.1)
+flags_at bytes = do
+  rest ← byte_at 40 bytes
+  words ← group_at rest
+  Some (Flags words.0, words.1)
 
 abbrev pub header_at : List ℕ → Option (Thing × List ℕ)
 header_at bytes = nstring_at bytes >>= λ text. Some (Header text.0, text.1)
@@ -48,7 +51,11 @@ other_at bytes = value_at bytes >>= λ rest. Some (OtherItem, rest)
 
 -- a MODSEQ in parentheses
 abbrev pub modseq_at : List ℕ → Option (Thing × List ℕ)
-modseq_at bytes = byte_at 40 bytes >>= λ inner. positive_at 9223372036854775807 inner >>= λ n. byte_at 41 n.1 >>= λ rest. Some (Modseq n.0, rest)
+modseq_at bytes = do
+  inner ← byte_at 40 bytes
+  n ← positive_at 9223372036854775807 inner
+  rest ← byte_at 41 n.1
+  Some (Modseq n.0, rest)
 
 abbrev pub internal_at : List ℕ → Option (Thing × List ℕ)
 internal_at bytes = string_at bytes >>= λ text. Some (Internal (moment_of text.0), text.1)

@@ -93,7 +93,12 @@ count_of word =
     else counts.Other))
 
 abbrev pub fetch_of : ℕ → List ℕ → Option Data
-fetch_of n rest = byte_at 32 rest >>= λ list. byte_at 40 list >>= λ inner. listed_at inner >>= λ items. end_at items.1 >>= λ u. Some (Fetch n items.0)
+fetch_of n rest = do
+  list ← byte_at 32 rest
+  inner ← byte_at 40 list
+  items ← listed_at inner
+  u ← end_at items.1
+  Some (Fetch n items.0)
 
 abbrev pub counted_of : Count → ℕ → List ℕ → Option Data
 counted_of counts.Exists n rest = end_at rest >>= λ u. Some (Exists n)
@@ -103,7 +108,11 @@ counted_of counts.Other n rest = Some Other
 
 -- a number and a word
 unfoldable pub numbered_of : List ℕ → List ℕ → Option Data
-numbered_of digits bytes = number_at 4294967295 digits >>= λ n. byte_at 32 bytes >>= λ rest. some_run_at classes.Word rest >>= λ word. counted_of (count_of word.0) n.0 word.1
+numbered_of digits bytes = do
+  n ← number_at 4294967295 digits
+  rest ← byte_at 32 bytes
+  word ← some_run_at classes.Word rest
+  counted_of (count_of word.0) n.0 word.1
 
 unfoldable pub kind_of : List ℕ → Kind
 kind_of word =
@@ -127,11 +136,20 @@ mailbox_at bytes = if begins_string bytes then string_at bytes else some_run_at 
 
 -- attributes in parentheses
 unfoldable pub attributes_at : List ℕ → Option (List (List ℕ) × List ℕ)
-attributes_at rest = byte_at 32 rest >>= λ list. byte_at 40 list >>= λ inner. group_at inner
+attributes_at rest = do
+  list ← byte_at 32 rest
+  inner ← byte_at 40 list
+  group_at inner
 
 -- a mailbox; anything may follow it (RFC 9051 §7.3.1)
 unfoldable pub list_of : List ℕ → Option Data
-list_of rest = attributes_at rest >>= λ attributes. byte_at 32 attributes.1 >>= λ a. separator_at a >>= λ b. byte_at 32 b >>= λ c. mailbox_at c >>= λ name. Some (Listed attributes.0 name.0)
+list_of rest = do
+  attributes ← attributes_at rest
+  separator ← byte_at 32 attributes.1
+  behind ← separator_at separator
+  text ← byte_at 32 behind
+  name ← mailbox_at text
+  Some (Listed attributes.0 name.0)
 
 -- (EARLIER) may stand in front
 unfoldable pub earlier_at : List ℕ → Bool × List ℕ
@@ -139,7 +157,12 @@ earlier_at bytes = if begins (codes "(earlier) ") bytes then (true, drop 10 byte
 
 -- UIDs that are gone (RFC 7162 §3.2.10)
 unfoldable pub vanished_of : List ℕ → Option Data
-vanished_of rest = byte_at 32 rest >>= λ a. let e = earlier_at a in set_at e.1 >>= λ set. end_at set.1 >>= λ u. Some (Vanished e.0 set.0)
+vanished_of rest = do
+  uids ← byte_at 32 rest
+  let e = earlier_at uids
+  set ← set_at e.1
+  u ← end_at set.1
+  Some (Vanished e.0 set.0)
 
 abbrev pub esearch_of : List ℕ → Option Data
 esearch_of rest = search_of rest >>= λ s. Some (Esearch s.0 s.1)

@@ -16,7 +16,11 @@ tag_at bytes = if begins_string bytes then string_at bytes else some_run_at clas
 
 -- (TAG "t")
 unfoldable pub correlator_at : List ℕ → Option (List ℕ × List ℕ)
-correlator_at bytes = behind_text (codes " (tag ") bytes >>= λ inner. tag_at inner >>= λ tag. byte_at 41 tag.1 >>= λ rest. Some (tag.0, rest)
+correlator_at bytes = do
+  inner ← behind_text (codes " (tag ") bytes
+  tag ← tag_at inner
+  rest ← byte_at 41 tag.1
+  Some (tag.0, rest)
 
 -- nothing more of a word
 abbrev pub ends_word : List ℕ → Bool
@@ -29,7 +33,12 @@ after_uid bytes = if begins (codes " uid") bytes && ends_word (drop 4 bytes) the
 
 -- the name of a pair, where its value begins, and what follows it
 unfoldable pub pair_at : List ℕ → Option (List ℕ × List ℕ × List ℕ)
-pair_at bytes = byte_at 32 bytes >>= λ a. some_run_at classes.Atom a >>= λ name. byte_at 32 name.1 >>= λ value. value_at value >>= λ rest. Some (name.0, value, rest)
+pair_at bytes = do
+  pair ← byte_at 32 bytes
+  name ← some_run_at classes.Atom pair
+  value ← byte_at 32 name.1
+  rest ← value_at value
+  Some (name.0, value, rest)
 
 abbrev pub all_or : Option (List ℕ) → List ℕ → List ℕ → Option (List ℕ)
 all_or found name value = if same (codes "all") name then Some value else found
@@ -46,4 +55,9 @@ all_of (Some value) = set_at value >>= λ set. if ends_word set.1 then Some (Som
 
 -- the tag, and the set that ALL gives
 unfoldable pub search_of : List ℕ → Option (List ℕ × Option (ℕ → Bool))
-search_of rest = correlator_at rest >>= λ tag. let pairs = after_uid tag.1 in pairs_at (length pairs) None pairs >>= λ all. all_of all >>= λ set. Some (tag.0, set)
+search_of rest = do
+  tag ← correlator_at rest
+  let pairs = after_uid tag.1
+  all ← pairs_at (length pairs) None pairs
+  set ← all_of all
+  Some (tag.0, set)

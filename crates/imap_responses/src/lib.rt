@@ -31,3 +31,6 @@ pub use response::{Code, Item, Lent, Response, Word};
 pub use slices::Slices;
 pub use std::alloc::AllocError as Memory;
 pub use stream::response_units;
+
+#[cfg(test)]
+mod grammar_tests;
