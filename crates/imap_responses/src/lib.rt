@@ -34,3 +34,5 @@ pub use stream::response_units;
 
 #[cfg(test)]
 mod grammar_tests;
+#[cfg(test)]
+mod reader_tests;

@@ -1,5 +1,5 @@
 //! Responses from the pieces in which a server's bytes come.
-ghost use Rattle.std.specs.Prelude.{◌≡◌, false, IsSome, Some, IfOk, IfErr};
+ghost use Rattle.std.specs.Prelude.{◌≡◌, false, true, IsSome, Some, IfOk, IfErr};
 ghost use Rattle.imap_units.specs.Cuts.{fresh};
 ghost use Rattle.imap_responses.specs.declared.fault.ReadFault.TheVariants as faults;
 ghost use Rattle.imap_responses.specs.Response.{response_of, data_of};
@@ -59,12 +59,11 @@ impl Reader {
         ensures { Feeds self.old bytes.now result self.new }
     {
         if self.damaged {
-            return Err(ReadFault::Damaged {
-                at: self.units.at(),
-            });
+            Err(self.fault())
+        } else {
+            self.units.feed(bytes)?;
+            Ok(())
         }
-        self.units.feed(bytes)?;
-        Ok(())
     }
 
     /// Goes to the next response. `false` says that the rest begins with no whole unit, and is no damage.
@@ -72,17 +71,12 @@ impl Reader {
         ensures { Advances self.old result self.new }
     {
         if self.damaged {
-            return Err(ReadFault::Damaged {
-                at: self.units.at(),
-            });
+            return Err(self.fault());
         }
         match self.units.advance() {
             Ok(true) => self.judge(),
             Ok(false) => Ok(false),
-            Err(fault) => {
-                self.damaged = true;
-                Err(ReadFault::Damaged { at: fault.at })
-            }
+            Err(_) => Err(self.damage()),
         }
     }
 
@@ -95,15 +89,29 @@ impl Reader {
             Ok(true) => Ok(true),
             Ok(false) => {
                 self.units.give_back();
-                self.damaged = true;
-                Err(ReadFault::Damaged {
-                    at: self.units.at(),
-                })
+                Err(self.damage())
             }
             Err(_) => {
                 self.units.give_back();
                 Err(ReadFault::Memory)
             }
+        }
+    }
+
+    /// Reads nothing from here on.
+    fn damage(&mut self) -> ReadFault
+        ensures answer { result ≡ faults.Damaged self.old.cut.at }
+        ensures done { self.new ≡ record { cut = self.old.cut; damaged = true } }
+    {
+        self.damaged = true;
+        self.fault()
+    }
+
+    fn fault(&self) -> ReadFault
+        ensures { result ≡ faults.Damaged self.now.cut.at }
+    {
+        ReadFault::Damaged {
+            at: self.units.at(),
         }
     }
 
