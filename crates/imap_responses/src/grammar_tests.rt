@@ -662,3 +662,24 @@ fn passes_over_lists_of_any_depth(rt: HostRuntime) -> Result<(), Fail> {
     }
     Ok(())
 }
+
+fn lends_name(alloc: Global, unit: &str) -> Result<bool, Memory> {
+    match read_response(alloc, unit.as_bytes())? {
+        Some(Response::List { name, .. }) => Ok(matches!(name, Lent::Slice(_))),
+        _ => Ok(false),
+    }
+}
+
+#[test]
+fn makes_only_texts_with_escapes(rt: HostRuntime) -> Result<(), Fail> {
+    let alloc = rt.alloc();
+    for (unit, lent) in [
+        ("* LIST () \"/\" a\\b\r\n", true),
+        ("* LIST () \"/\" \"a b\"\r\n", true),
+        ("* LIST () \"/\" {3}\r\na\\b\r\n", true),
+        ("* LIST () \"/\" \"a\\\\b\"\r\n", false),
+    ] {
+        assert_eq!(rt; lends_name(alloc, unit)?, lent, "{unit}");
+    }
+    Ok(())
+}
