@@ -77,16 +77,16 @@ end_at (c ∷ rest) = None
 
 -- ---- numbers
 
--- a number past most stands as most and 1
-abbrev pub value_on : ℕ → ℕ → ℕ → ℕ
-value_on most n c = min (n * 10 + (c - 48)) (most + 1)
-
-abbrev pub value_of : ℕ → List ℕ → ℕ
-value_of most digits = fold (value_on most) 0 digits
+-- what decimal digits spell
+abbrev pub value_of : List ℕ → ℕ
+value_of digits = fold (λ n c. n * 10 + (c - 48)) 0 digits
 
 -- digits that spell at most so much
 unfoldable pub number_at : ℕ → List ℕ → Option (ℕ × List ℕ)
-number_at most bytes = some_run_at classes.Digit bytes >>= λ run. let n = value_of most run.0 in if nat_lt most n then None else Some (n, run.1)
+number_at most bytes = do
+  run ← some_run_at classes.Digit bytes
+  let n = value_of run.0
+  if nat_lt most n then None else Some (n, run.1)
 
 -- one from 1
 unfoldable pub positive_at : ℕ → List ℕ → Option (ℕ × List ℕ)
@@ -108,7 +108,10 @@ words_of text = words_on [] text
 
 -- the words in parentheses, behind the (
 unfoldable pub group_at : List ℕ → Option (List (List ℕ) × List ℕ)
-group_at bytes = let text = run_at classes.Group bytes in byte_at 41 text.1 >>= λ rest. Some (words_of text.0, rest)
+group_at bytes = do
+  let text = run_at classes.Group bytes
+  rest ← byte_at 41 text.1
+  Some (words_of text.0, rest)
 
 -- ---- what follows a word: nothing, or a space and a text
 abbrev pub text_at : List ℕ → Option (List ℕ)

@@ -636,3 +636,50 @@ fn reads_other_words(rt: HostRuntime) -> Result<(), Fail> {
     }
     Ok(())
 }
+
+fn push_all(unit: &mut Vec<u8>, byte: u8, count: usize) -> Result<(), Memory> {
+    for _ in 0..count {
+        unit.push(byte)?;
+    }
+    Ok(())
+}
+
+#[test]
+fn passes_over_lists_of_any_depth(rt: HostRuntime) -> Result<(), Fail> {
+    let alloc = rt.alloc();
+    let mut unit = Vec::from_slice(alloc, b"* 1 FETCH (X ")?;
+    push_all(&mut unit, b'(', 100_000)?;
+    push_all(&mut unit, b')', 100_000)?;
+    unit.extend_from_slice(b" UID 7)\r\n")?;
+    match read_response(alloc, &unit)? {
+        None => assert!(rt; false),
+        Some(response) => {
+            assert_eq!(rt;
+                told_response(alloc, &response)?.as_str(),
+                "fetch 1: other; uid 7; "
+            );
+        }
+    }
+    Ok(())
+}
+
+fn lends_name(alloc: Global, unit: &str) -> Result<bool, Memory> {
+    match read_response(alloc, unit.as_bytes())? {
+        Some(Response::List { name, .. }) => Ok(matches!(name, Lent::Slice(_))),
+        _ => Ok(false),
+    }
+}
+
+#[test]
+fn makes_only_texts_with_escapes(rt: HostRuntime) -> Result<(), Fail> {
+    let alloc = rt.alloc();
+    for (unit, lent) in [
+        ("* LIST () \"/\" a\\b\r\n", true),
+        ("* LIST () \"/\" \"a b\"\r\n", true),
+        ("* LIST () \"/\" {3}\r\na\\b\r\n", true),
+        ("* LIST () \"/\" \"a\\\\b\"\r\n", false),
+    ] {
+        assert_eq!(rt; lends_name(alloc, unit)?, lent, "{unit}");
+    }
+    Ok(())
+}

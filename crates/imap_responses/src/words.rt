@@ -1,10 +1,9 @@
 //! Runs of bytes, words and numbers in a unit.
 
-ghost use Rattle.std.specs.Prelude.{◌≡◌, ◌≤◌, ◌<◌, ◌^◌, ◌++◌, length, take, drop, IfOk, OnOk};
+ghost use Rattle.std.specs.Prelude.{◌≡◌, ◌≤◌, ◌<◌, ◌^◌, ◌++◌, ◌+◌, ◌-◌, ◌*◌, min, length, take, drop, IfOk, OnOk};
 ghost use Rattle.std.specs.List.{prefix_len};
 ghost use Rattle.imap_responses.specs.Slices.{slices_of};
 ghost use Rattle.imap_responses.specs.Words.{Gives, same, begins as begins_word, in_class, is_tag_byte as tag_byte, is_atom_byte as atom_byte, run_at, is_all as all_in, some_run_at, byte_at, end_at, number_at, positive_at, value_of, words_of, words_on, kept, group_at, text_at};
-ghost use Rattle.imap_responses.specs.Words.{value_on as capped};
 
 use crate::slices::Slices;
 use crate::stop::Stop;
@@ -164,9 +163,10 @@ pub fn text(bytes: &[u8]) -> Result<&[u8], Stop>
     }
 }
 
+/// A number with another digit, or `most` and 1 where that is more than `most`.
 fn value_on(most: u64, n: u64, digit: u8) -> u64
     requires { most < 2 ^ 63 }
-    ensures { result ≡ capped most n digit }
+    ensures { result ≡ min (n * 10 + (digit - 48)) (most + 1) }
 {
     if n > most / 10 {
         return most + 1;
@@ -177,7 +177,7 @@ fn value_on(most: u64, n: u64, digit: u8) -> u64
 /// What the digits spell, or `most` and 1 where they spell more than `most`.
 fn value(most: u64, digits: &[u8]) -> u64
     requires { most < 2 ^ 63 }
-    ensures { result ≡ value_of most digits.now }
+    ensures { result ≡ min (value_of digits.now) (most + 1) }
 {
     let mut n: u64 = 0;
     for digit in digits {
