@@ -1,0 +1,25 @@
+use Rattle.std.proofs.Common.{length}
+use Rattle.std.proofs.lemmas.Result.{err_from_is_err_and}
+use Rattle.imap_responses.specs.Things.{thing_of, things_of}
+use Rattle.imap_responses.specs.Items.{items_at}
+use Rattle.imap_responses.proofs.ItemLemmas.{things_of-push, goes_on, ends_here, no_item, no_separator, none_left}
+use Rattle.imap_responses.proofs.fetch.items.Goals as goal
+
+pub returns-in_err-one : goal.returns-in_err-one
+returns-in_err-one c =
+    let p = err_from_is_err_and c.from_residual.result c.from_residual.ensures.1 in
+    rw (p.1, p.2) (no_item c.in_err-one.field-0.0 (things_of c.loop.items.items) (length c.args.bytes.now) c.loop.counter c.loop.left.now (items_at (length c.args.bytes.now) c.args.bytes.now) c.loop-test.true c.in_err-one.ensures c.loop.invariant)
+
+pub returns-in_err-ends : goal.returns-in_err-ends
+returns-in_err-ends c =
+    let p = err_from_is_err_and c.from_residual-in_err-ends.result c.from_residual-in_err-ends.ensures.1 in
+    rw (p.1, p.2) (no_separator c.in_err-ends.field-0.0 (things_of c.loop.items.items) (length c.args.bytes.now) c.loop.counter c.loop.left.now c.in_ok-one.rest.now (thing_of c.in_ok-one.one) (items_at (length c.args.bytes.now) c.args.bytes.now) c.loop-test.true c.in_ok-one.ensures c.in_err-ends.ensures c.loop.invariant)
+
+pub returns-then-ends : goal.returns-then-ends
+returns-then-ends c = rw (c.in_ok-push.ensures.items, things_of-push) (ends_here (things_of c.loop.items.items) (length c.args.bytes.now) c.loop.counter c.loop.left.now c.in_ok-one.rest.now c.in_ok-ends.after.now (thing_of c.in_ok-one.one) c.in_ok-ends.ends (items_at (length c.args.bytes.now) c.args.bytes.now) c.loop-test.true c.in_ok-one.ensures c.in_ok-ends.ensures c.if-ends.true c.loop.invariant)
+
+pub loop-preserved : goal.loop-preserved
+loop-preserved c = rw (c.in_ok-push.ensures.items, things_of-push) (goes_on (things_of c.loop.items.items) (length c.args.bytes.now) c.loop.counter c.loop.left.now c.in_ok-one.rest.now c.in_ok-ends.after.now (thing_of c.in_ok-one.one) c.in_ok-ends.ends (items_at (length c.args.bytes.now) c.args.bytes.now) c.loop-test.true c.in_ok-one.ensures c.in_ok-ends.ensures c.if-ends.false c.loop.invariant)
+
+pub returns : goal.returns
+returns c = none_left (things_of c.loop.items.items) (length c.args.bytes.now) c.loop.counter c.loop.left.now (items_at (length c.args.bytes.now) c.args.bytes.now) c.loop-test.false c.loop.invariant

@@ -1,0 +1,6 @@
+use Rattle.std.proofs.Common.{◌≡◌, ◌++◌, drop}
+use Rattle.imap_responses.specs.Strings.{unescape_on, unescape}
+use Rattle.imap_responses.proofs.strings.unescaped.Given as goal
+
+abbrev pub invariant-loop-byte : goal.invariant-loop-byte
+invariant-loop-byte l = l.out.items ++ unescape_on l.held (drop l.byte-index l.text) ≡ unescape l.text

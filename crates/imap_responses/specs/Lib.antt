@@ -1,0 +1,13 @@
+pub mod Slices
+pub mod Things
+pub mod Words
+pub mod Strings
+pub mod Values
+pub mod Dates
+pub mod Codes
+pub mod Items
+pub mod Sets
+pub mod Searches
+pub mod Response
+pub mod Readings
+pub mod Talks

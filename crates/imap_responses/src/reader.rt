@@ -1,0 +1,147 @@
+//! Responses from the pieces in which a server's bytes come.
+ghost use Rattle.std.specs.Prelude.{◌≡◌, false, true, IsSome, Some, IfOk, IfErr};
+ghost use Rattle.imap_units.specs.Cuts.{fresh};
+ghost use Rattle.imap_responses.specs.declared.fault.ReadFault.TheVariants as faults;
+ghost use Rattle.imap_responses.specs.Response.{response_of, data_of};
+ghost use Rattle.imap_responses.specs.Readings.{Reading, Feeds, Judges, Advances, NextIs, TellsResponse};
+
+use crate::fault::ReadFault;
+use crate::reading::read_response;
+use crate::response::Response;
+use imap_units::UnitReader;
+use std::alloc::{AllocError, Global};
+use std::marker::Model;
+
+/// The bytes that came in one dial, and the responses that they hold.
+///
+/// `while reader.advance()?` with `reader.current()?` goes through the responses that are there. `next` does both, but a caller knows
+/// only from the other two what the reader holds afterwards.
+#[derive(Drop)]
+pub struct Reader {
+    alloc: Global,
+    units: UnitReader,
+    damaged: bool,
+}
+
+impl Model for Reader {
+    ghost use Rattle.imap_responses.specs.Readings.{Reading};
+
+    ghost Value = { Reading };
+
+    ghost view = { λ r. record { cut = r.units; damaged = r.damaged } };
+}
+
+/// Whether a unit is a response: read and dropped.
+fn is_response(alloc: Global, unit: &[u8]) -> Result<bool, AllocError>
+    ensures { TellsResponse result unit.now }
+{
+    match read_response(alloc, unit) {
+        Ok(Some(_)) => Ok(true),
+        Ok(None) => Ok(false),
+        Err(error) => Err(error),
+    }
+}
+
+impl Reader {
+    /// A reader of a fresh dial.
+    pub fn new(alloc: Global) -> Reader
+        ensures { result ≡ record { cut = fresh; damaged = false } }
+    {
+        Reader {
+            alloc,
+            units: UnitReader::new(alloc),
+            damaged: false,
+        }
+    }
+
+    /// Appends bytes. A dial has fewer than 2 ^ 64; out of memory answers those that would be more.
+    pub fn feed(&mut self, bytes: &[u8]) -> Result<(), ReadFault>
+        ensures { Feeds self.old bytes.now result self.new }
+    {
+        if self.damaged {
+            Err(self.fault())
+        } else {
+            self.units.feed(bytes)?;
+            Ok(())
+        }
+    }
+
+    /// Goes to the next response. `false` says that the rest begins with no whole unit, and is no damage.
+    pub fn advance(&mut self) -> Result<bool, ReadFault>
+        ensures { Advances self.old result self.new }
+    {
+        if self.damaged {
+            return Err(self.fault());
+        }
+        match self.units.advance() {
+            Ok(true) => self.judge(),
+            Ok(false) => Ok(false),
+            Err(_) => Err(self.damage()),
+        }
+    }
+
+    /// Keeps the unit that was just given if it is a response, and gives it back if not.
+    fn judge(&mut self) -> Result<bool, ReadFault>
+        requires { self.old.damaged ≡ false }
+        ensures { Judges self.old result self.new }
+    {
+        match is_response(self.alloc, self.units.unit()) {
+            Ok(true) => Ok(true),
+            Ok(false) => {
+                self.units.give_back();
+                Err(self.damage())
+            }
+            Err(_) => {
+                self.units.give_back();
+                Err(ReadFault::Memory)
+            }
+        }
+    }
+
+    /// Reads nothing from here on.
+    fn damage(&mut self) -> ReadFault
+        ensures answer { result ≡ faults.Damaged self.old.cut.at }
+        ensures done { self.new ≡ record { cut = self.old.cut; damaged = true } }
+    {
+        self.damaged = true;
+        self.fault()
+    }
+
+    fn fault(&self) -> ReadFault
+        ensures { result ≡ faults.Damaged self.now.cut.at }
+    {
+        ReadFault::Damaged {
+            at: self.units.at(),
+        }
+    }
+
+    /// The response that the reader went to last; its text is lent from the reader. No bytes were fed since.
+    pub fn current(&self) -> Result<Response<'_>, ReadFault>
+        requires { IsSome (response_of self.now.cut.given) }
+        ensures gives { IfOk result (λ r. response_of self.now.cut.given ≡ Some (data_of r)) }
+        ensures memory { IfErr result (λ e. e ≡ faults.Memory) }
+    {
+        match read_response(self.alloc, self.units.unit()) {
+            Ok(Some(response)) => Ok(response),
+            Ok(None) => unreachable!(),
+            Err(_) => Err(ReadFault::Memory),
+        }
+    }
+
+    /// The bytes of that response.
+    pub fn unit(&self) -> &[u8]
+        ensures { result.now ≡ self.now.cut.given }
+    {
+        self.units.unit()
+    }
+
+    /// The next response, if there is one.
+    pub fn next(&mut self) -> Result<Option<Response<'_>>, ReadFault>
+        ensures { NextIs self.old result }
+    {
+        if !self.advance()? {
+            return Ok(None);
+        }
+        Ok(Some(self.current()?))
+    }
+}
