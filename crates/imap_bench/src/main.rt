@@ -20,7 +20,7 @@ struct Tally {
     responses: u64,
     fetches: u64,
     items: u64,
-    damaged: Option<usize>,
+    damaged: Option<u64>,
 }
 
 impl Tally {
@@ -92,7 +92,7 @@ fn listing(alloc: Global, tally: &Tally) -> Result<String, AllocError> {
     push_count(&mut text, "fetches", tally.fetches)?;
     push_count(&mut text, "items", tally.items)?;
     if let Some(at) = tally.damaged {
-        push_count(&mut text, "damaged at", at as u64)?;
+        push_count(&mut text, "damaged at", at)?;
     }
     Ok(text)
 }

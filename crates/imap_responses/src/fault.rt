@@ -9,7 +9,7 @@ use std::alloc::{AllocError, AllocFailed};
 #[derive(Clone, Copy, Debug, PartialEq, Eq)]
 pub enum ReadFault {
     /// The unit that begins there, counted from the dial's first byte, is no response, or a literal of it announces too many octets.
-    Damaged { at: usize },
+    Damaged { at: u64 },
     Memory,
 }
 

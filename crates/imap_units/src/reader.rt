@@ -10,7 +10,7 @@ use std::marker::Model;
 #[derive(Clone, Copy, Debug, PartialEq, Eq)]
 pub struct TooLong {
     /// Where that unit begins, counted from the first byte that was fed.
-    pub at: usize,
+    pub at: u64,
 }
 
 /// The bytes of one stream, and the units that they hold.
@@ -129,9 +129,9 @@ impl UnitReader {
     }
 
     /// Where the next unit begins, counted from the first byte that was fed.
-    pub fn at(&self) -> usize
+    pub fn at(&self) -> u64
         ensures { result ≡ self.now.at }
     {
-        self.base + self.start
+        (self.base + self.start) as u64
     }
 }

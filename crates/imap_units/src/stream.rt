@@ -11,7 +11,7 @@ use std::alloc::{AllocError, AllocFailed, Global};
 #[derive(Clone, Copy, Debug, PartialEq, Eq)]
 pub enum StreamFault {
     /// A literal of the unit that begins there announces too many octets.
-    TooLong { at: usize },
+    TooLong { at: u64 },
     Memory,
 }
 
