@@ -5,7 +5,12 @@ use Rattle.imap_responses.specs.declared.stop.Stop.TheVariants as stops
 use Rattle.imap_responses.specs.declared.response.Item.{Item}
 use Rattle.imap_responses.specs.Words.{Stops}
 use Rattle.imap_responses.specs.Things.{Thing, thing_of, things_of}
-use Rattle.imap_responses.specs.Items.{item_at, items_at, after_at, then_items, in_front, after_things}
+use Rattle.imap_responses.specs.Items.{item_at, items_at, after_at, then_items, in_front}
+
+-- items in front of those that are read behind them
+abbrev pub after_things : List Thing → Option (List Thing × List ℕ) → Option (List Thing × List ℕ)
+after_things front None = None
+after_things front (Some x) = Some (front ++ x.0, x.1)
 
 pub things_of-push : (is : List Item) (i : Item) → things_of (is ++ i ∷ []) ≡ things_of is ++ thing_of i ∷ []
 things_of-push [] i = refl

@@ -1,8 +1,8 @@
 -- Worked examples of units and what they say.
-use Rattle.std.proofs.Common.{◌≡◌, ℕ, List, [], ◌∷◌, ◌++◌, true, false, Option, Some, None, refl, codes}
+use Rattle.std.proofs.Common.{◌≡◌, ℕ, List, [], ◌∷◌, ◌++◌, true, Some, None, refl, codes}
 use Rattle.imap_responses.specs.declared.response.Word.TheVariants as words
 use Rattle.imap_responses.specs.declared.response.Code.TheVariants as coding
-use Rattle.imap_responses.specs.Things.{Uid, Flags, Modseq, Size, Header, Body, OtherItem}
+use Rattle.imap_responses.specs.Things.{Uid, Flags, Modseq, Header, Body, OtherItem}
 use Rattle.imap_responses.specs.Words.{number_at, positive_at, group_at}
 use Rattle.imap_responses.specs.Strings.{raw_at, quoted_at, literal_at, string_at, nstring_at}
 use Rattle.imap_responses.specs.Values.{token_at, closed_at}
@@ -11,7 +11,7 @@ use Rattle.imap_responses.specs.Codes.{name_of as code_name_of}
 use Rattle.imap_responses.specs.Items.{name_of, item_at, items_at, listed_at}
 use Rattle.imap_responses.specs.Sets.{range_at, ranges_at, set_at, members, between}
 use Rattle.imap_responses.specs.Searches.{tag_at, correlator_at, after_uid, pair_at, pairs_at, all_of, search_of}
-use Rattle.imap_responses.specs.Response.{response_of, line_of, tagged_of, state_of, untagged_state_of, kind_of, count_of, numbered_of, line_words_of, separator_at, mailbox_at, attributes_at, list_of, earlier_at, vanished_of, untagged_of, Continue, Tagged, State, Capability, Listed, Exists, Fetch, Vanished, Esearch, Other}
+use Rattle.imap_responses.specs.Response.{response_of, line_of, tagged_of, state_of, untagged_state_of, kind_of, count_of, numbered_of, line_words_of, separator_at, mailbox_at, attributes_at, list_of, earlier_at, vanished_of, untagged_of, Continue, Tagged, State, Capability, Listed, Fetch, Vanished, Esearch, Other}
 
 abbrev end_of_line : List ℕ
 end_of_line = 13 ∷ 10 ∷ []

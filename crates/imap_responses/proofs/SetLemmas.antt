@@ -4,7 +4,12 @@ use Rattle.imap_commands.specs.declared.uid_set.UidRange.{UidRange}
 use Rattle.imap_responses.specs.declared.stop.Stop.{Stop}
 use Rattle.imap_responses.specs.declared.stop.Stop.TheVariants as stops
 use Rattle.imap_responses.specs.Words.{Stops}
-use Rattle.imap_responses.specs.Sets.{range_at, comma_at, then_ranges, in_front, ranges_at, after_ranges}
+use Rattle.imap_responses.specs.Sets.{range_at, comma_at, then_ranges, in_front, ranges_at}
+
+-- ranges in front of those that are read behind them
+abbrev pub after_ranges : List UidRange → Option (List UidRange × List ℕ) → Option (List UidRange × List ℕ)
+after_ranges front None = None
+after_ranges front (Some x) = Some (front ++ x.0, x.1)
 
 one_less : (count k : ℕ) → k < count → count - k ≡ suc (count - (k + 1))
 one_less count k lt = omega arith

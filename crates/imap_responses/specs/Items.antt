@@ -1,5 +1,5 @@
 -- The items of a FETCH (RFC 9051 §7.5.2, RFC 7162 §3.1.4.2).
-use Rattle.std.specs.Prelude.{ℕ, zero, suc, ◌+◌, Bool, true, false, not, ◌||◌, ◌==◌, if◌then◌else◌, List, [], ◌∷◌, ◌++◌, length, take, drop, codes, Option, Some, None}
+use Rattle.std.specs.Prelude.{ℕ, zero, suc, ◌+◌, Bool, true, false, not, ◌||◌, ◌==◌, if◌then◌else◌, List, [], ◌∷◌, length, take, drop, codes, Option, Some, None}
 use Rattle.imap_responses.specs.declared.fetch.Name.{Name}
 use Rattle.imap_responses.specs.declared.fetch.Name.TheVariants as names
 use Rattle.imap_responses.specs.Things.{Thing, Uid, Flags, Modseq, Internal, Size, Header, Body, OtherItem}
@@ -96,10 +96,6 @@ then_items t false rest more = in_front t more
 unfoldable pub items_at : ℕ → List ℕ → Option (List Thing × List ℕ)
 items_at zero bytes = None
 items_at (suc n) bytes = item_at bytes >>= λ i. after_at i.1 >>= λ a. then_items i.0 a.0 a.1 (items_at n a.1)
-
-abbrev pub after_things : List Thing → Option (List Thing × List ℕ) → Option (List Thing × List ℕ)
-after_things front None = None
-after_things front (Some x) = Some (front ++ x.0, x.1)
 
 -- items in parentheses, or none, behind the (
 unfoldable pub listed_at : List ℕ → Option (List Thing × List ℕ)

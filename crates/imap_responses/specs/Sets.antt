@@ -1,5 +1,5 @@
 -- Sets of UIDs (RFC 9051 §9, uid-set), without the `*` that no server sends.
-use Rattle.std.specs.Prelude.{ℕ, zero, suc, min, max, Bool, true, false, ◌==◌, if◌then◌else◌, List, [], ◌∷◌, ◌++◌, length, Option, Some, None}
+use Rattle.std.specs.Prelude.{ℕ, zero, suc, min, max, Bool, true, false, ◌==◌, if◌then◌else◌, List, [], ◌∷◌, length, Option, Some, None}
 use Rattle.imap_commands.specs.declared.uid_set.UidRange.{UidRange}
 use Rattle.imap_commands.specs.UidSets.{has}
 use Rattle.imap_responses.specs.Words.{◌>>=◌, positive_at}
@@ -31,10 +31,6 @@ then_ranges r false rest more = Some (r ∷ [], rest)
 unfoldable pub ranges_at : ℕ → List ℕ → Option (List UidRange × List ℕ)
 ranges_at zero bytes = None
 ranges_at (suc n) bytes = range_at bytes >>= λ r. let c = comma_at r.1 in then_ranges r.0 c.0 c.1 (ranges_at n c.1)
-
-abbrev pub after_ranges : List UidRange → Option (List UidRange × List ℕ) → Option (List UidRange × List ℕ)
-after_ranges front None = None
-after_ranges front (Some x) = Some (front ++ x.0, x.1)
 
 -- a set as the test of what is in it
 abbrev pub members : List UidRange → ℕ → Bool

@@ -1,5 +1,5 @@
 -- Runs of bytes, words and numbers, read from the left: what was read, and what follows it.
-use Rattle.std.specs.Prelude.{◌≡◌, ℕ, ◌+◌, ◌-◌, ◌*◌, Bool, not, ◌&&◌, ◌||◌, ◌==◌, nat_lt, nat_le, min, if◌then◌else◌, List, [], ◌∷◌, ◌++◌, length, map, take, drop, bytes_eq, Option, Some, None, Result, Ok, Err}
+use Rattle.std.specs.Prelude.{◌≡◌, ℕ, ◌+◌, ◌-◌, ◌*◌, Bool, not, ◌&&◌, ◌||◌, ◌==◌, nat_lt, nat_le, if◌then◌else◌, List, [], ◌∷◌, ◌++◌, length, map, take, drop, bytes_eq, Option, Some, None, Result, Ok, Err}
 use Rattle.std.specs.List.{fold, prefix_len}
 use Rattle.std.specs.Char.{to_ascii_lowercase}
 use Rattle.imap_responses.specs.declared.stop.Stop.{Stop}

@@ -1,6 +1,7 @@
 use Rattle.std.proofs.Common.{◌≡◌, ◌-◌, length}
 use Rattle.imap_responses.specs.Things.{things_of}
-use Rattle.imap_responses.specs.Items.{items_at, after_things}
+use Rattle.imap_responses.specs.Items.{items_at}
+use Rattle.imap_responses.proofs.ItemLemmas.{after_things}
 use Rattle.imap_responses.proofs.fetch.items.Given as goal
 
 abbrev pub invariant-loop : goal.invariant-loop

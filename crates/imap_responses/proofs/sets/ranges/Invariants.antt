@@ -1,5 +1,6 @@
 use Rattle.std.proofs.Common.{◌≡◌, ◌-◌, length}
-use Rattle.imap_responses.specs.Sets.{ranges_at, after_ranges}
+use Rattle.imap_responses.specs.Sets.{ranges_at}
+use Rattle.imap_responses.proofs.SetLemmas.{after_ranges}
 use Rattle.imap_responses.proofs.sets.ranges.Given as goal
 
 abbrev pub invariant-loop : goal.invariant-loop

@@ -1,5 +1,6 @@
 use Rattle.std.proofs.Common.{◌≡◌, ◌≤◌, ◌-◌, length, take, drop}
-use Rattle.imap_responses.specs.Strings.{before_quote, after_front}
+use Rattle.imap_responses.specs.Strings.{before_quote}
+use Rattle.imap_responses.proofs.QuotedLemmas.{after_front}
 use Rattle.imap_responses.proofs.strings.quote_place.Given as goal
 
 abbrev pub invariant-loop-at : goal.invariant-loop-at

@@ -1,5 +1,6 @@
 use Rattle.std.proofs.Common.{◌≡◌, ◌++◌, drop}
-use Rattle.imap_responses.specs.Strings.{unescape_on, unescape}
+use Rattle.imap_responses.specs.Strings.{unescape}
+use Rattle.imap_responses.proofs.QuotedLemmas.{unescape_on}
 use Rattle.imap_responses.proofs.strings.unescaped.Given as goal
 
 abbrev pub invariant-loop-byte : goal.invariant-loop-byte
