@@ -68,3 +68,7 @@ after_front front (Some x) = Some (front ++ x.0, x.1)
 abbrev pub unescape_on : Bool → List ℕ → List ℕ
 unescape_on held [] = []
 unescape_on held (c ∷ text) = if not held && c == 92 then unescape_on true text else c ∷ unescape_on false text
+
+-- no quote that counts stands before a place
+abbrev pub NoQuoteBefore : List ℕ → ℕ → Type 0
+NoQuoteBefore bytes at = before_quote bytes ≡ after_front (take at bytes) (before_quote (drop at bytes))
