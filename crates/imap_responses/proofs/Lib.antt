@@ -6,3 +6,4 @@ pub mod TalkLemmas
 pub mod SetLemmas
 pub mod PairLemmas
 pub mod ResponseExamples
+pub mod MarkLemmas

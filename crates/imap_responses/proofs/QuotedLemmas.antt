@@ -2,15 +2,10 @@
 use Rattle.std.proofs.Common.{if◌then◌else◌, ◌&&◌, ◌==◌, ◌≡◌, ℕ, ◌+◌, ◌<◌, ◌≤◌, Bool, true, false, eqb, cond, not, List, [], ◌∷◌, ◌++◌, length, take, drop, get_or, refl, sym, ap, ◌∙◌, arith, append_assoc, Option, Some, None}
 use Rattle.std.proofs.lemmas.List.{take_more, append-nil, length-drop, drop_all}
 use Rattle.std.specs.List.{prefix_len}
-use Rattle.imap_responses.specs.Strings.{before_quote, behind, unescape}
+use Rattle.imap_responses.specs.Strings.{before_quote, behind, after_front, unescape}
 use Rattle.imap_responses.specs.Words.{in_class, run_at}
 use Rattle.imap_responses.specs.declared.words.Class.TheVariants as classes
 use Rattle.imap_responses.proofs.WordLemmas.{split_at_byte}
-
--- bytes in front of what is read behind them
-abbrev pub after_front : List ℕ → Option (List ℕ × List ℕ) → Option (List ℕ × List ℕ)
-after_front front None = None
-after_front front (Some x) = Some (front ++ x.0, x.1)
 
 -- the same text from its middle on: a `\` is held, or none
 abbrev pub unescape_on : Bool → List ℕ → List ℕ

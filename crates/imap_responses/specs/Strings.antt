@@ -1,5 +1,5 @@
 -- Strings (RFC 9051 §4.3): quoted, or a literal with the number of its octets in front.
-use Rattle.std.specs.Prelude.{◌≡◌, ◌≤◌, ℕ, ◌+◌, Bool, false, ◌&&◌, ◌||◌, ◌==◌, nat_lt, nat_le, if◌then◌else◌, List, [], ◌∷◌, length, take, drop, codes, Option, Some, None}
+use Rattle.std.specs.Prelude.{◌≡◌, ◌≤◌, ℕ, ◌+◌, Bool, false, ◌&&◌, ◌||◌, ◌==◌, nat_lt, nat_le, if◌then◌else◌, List, [], ◌∷◌, ◌++◌, length, take, drop, codes, Option, Some, None}
 use Rattle.imap_responses.specs.declared.words.Class.TheVariants as classes
 use Rattle.imap_responses.specs.Words.{◌>>=◌, same, is_all, number_at}
 
@@ -59,3 +59,12 @@ nstring_at bytes = if is_nil bytes then Some (None, drop 3 bytes) else (string_a
 abbrev pub IsQuoteAt : List ℕ → Option ℕ → Type 0
 IsQuoteAt bytes None = before_quote bytes ≡ None
 IsQuoteAt bytes (Some len) = (len + 1 ≤ length bytes) × (before_quote bytes ≡ Some (take len bytes, drop (len + 1) bytes))
+
+-- bytes in front of what is read behind them
+abbrev pub after_front : List ℕ → Option (List ℕ × List ℕ) → Option (List ℕ × List ℕ)
+after_front front None = None
+after_front front (Some x) = Some (front ++ x.0, x.1)
+
+-- no quote that counts stands before a place
+abbrev pub NoQuoteBefore : List ℕ → ℕ → Type 0
+NoQuoteBefore bytes at = before_quote bytes ≡ after_front (take at bytes) (before_quote (drop at bytes))

@@ -2,20 +2,35 @@
 
 ghost use Rattle.std.specs.Prelude.{◌≡◌, ◌≤◌, length, IfOk};
 ghost use Rattle.imap_responses.specs.Things.{bytes_of, bytes_or_nil};
-ghost use Rattle.imap_responses.specs.Words.{Gives};
-ghost use Rattle.imap_responses.specs.Strings.{IsQuoteAt, unescape, raw_at, quoted_at, literal_at, string_at, begins_string as string_begins, is_nil as nil, nstring_at};
+ghost use Rattle.imap_responses.specs.Words.{Gives, is_all as all_in};
+ghost use Rattle.imap_responses.specs.declared.words.Class.TheVariants as classes;
+ghost use Rattle.imap_responses.specs.Strings.{IsQuoteAt, NoQuoteBefore, unescape, raw_at, quoted_at, literal_at, string_at, begins_string as string_begins, is_nil as nil, nstring_at};
 
 use crate::response::Lent;
 use crate::stop::Stop;
 use crate::words::{Class, is, is_all, number};
 use mail_io::Bytes;
+use memchr::memchr2;
 use std::alloc::{AllocError, Global};
+
+/// Where the next quote or `\` stands from a place on, or the length.
+fn next_mark(bytes: &[u8], at: usize) -> usize
+    requires { at ≤ length bytes.now }
+    ensures within { result ≤ length bytes.now }
+    ensures on { at ≤ result }
+    ensures plain { NoQuoteBefore bytes.now at → NoQuoteBefore bytes.now result }
+{
+    match memchr2(b'"', b'\\', &bytes[at..]) {
+        Some(count) => at + count,
+        None => bytes.len(),
+    }
+}
 
 /// Where the first quote stands that isn't behind a `\`.
 fn quote_place(bytes: &[u8]) -> Option<usize>
     ensures { IsQuoteAt bytes.now result }
 {
-    let mut at = 0;
+    let mut at = next_mark(bytes, 0);
     while at < bytes.len() {
         if bytes[at] == b'"' {
             return Some(at);
@@ -26,9 +41,19 @@ fn quote_place(bytes: &[u8]) -> Option<usize>
                 return None;
             }
         }
-        at += 1;
+        at = next_mark(bytes, at + 1);
     }
     None
+}
+
+/// Whether no CR and no LF stands in a text.
+fn is_one_line(text: &[u8]) -> bool
+    ensures { result ≡ all_in classes.Line text.now }
+{
+    match memchr2(b'\r', b'\n', text) {
+        Some(_) => false,
+        None => true,
+    }
 }
 
 /// The text of a quoted string with its escapes, behind the first quote.
@@ -41,7 +66,7 @@ pub fn raw(bytes: &[u8]) -> Result<(&[u8], &[u8]), Stop>
         Some(len) => {
             let text = &bytes[..len];
             let after = &bytes[len + 1..];
-            if !is_all(Class::Line, text) {
+            if !is_one_line(text) {
                 return Err(Stop::No);
             }
             Ok((text, after))
