@@ -1,5 +1,6 @@
 //! The value of a field as a text.
 ghost use Rattle.std.specs.Prelude.{◌≡◌, IfOk, OnOk, ◌++◌, string_bytes};
+ghost use Rattle.std.specs.Str.Lossy.{utf8_lossy};
 ghost use Rattle.header_words.specs.Fields.{is_blank, is_continuation};
 ghost use Rattle.header_words.specs.Places.{raw_field};
 ghost use Rattle.header_words.specs.Value.{unfolded, unfolded_with, without_front, without_back, trimmed, words_decoded, decoded_of};
@@ -16,8 +17,29 @@ pub fn decoded(alloc: Global, field: &Field<'_>) -> Result<String, AllocError>
     ensures { IfOk result (λ text. string_bytes text ≡ decoded_of field.now.lines) }
 {
     let value = unfolded(alloc, field)?;
-    let said = say(alloc, value)?;
-    String::from_utf8_lossy(alloc, trim(&said))
+    let mut said = say(alloc, value)?;
+    trim_ends(&mut said);
+    read_lossily(alloc, said)
+}
+
+/// Takes the spaces and TABs at the ends away.
+fn trim_ends(bytes: &mut Vec<u8>)
+    ensures { bytes.new.items ≡ trimmed bytes.old.items }
+{
+    let front = bytes.len() - trim_front(bytes).len();
+    let len = trim(bytes).len();
+    bytes.copy_within(front..front + len, 0);
+    bytes.truncate(len);
+}
+
+/// Bytes read as UTF-8 lossily. Valid text, as nearly all mail has it, is not copied.
+fn read_lossily(alloc: Global, bytes: Vec<u8>) -> Result<String, AllocError>
+    ensures { IfOk result (λ text. string_bytes text ≡ utf8_lossy bytes.items) }
+{
+    match String::from_utf8(bytes) {
+        Ok(text) => Ok(text),
+        Err(error) => String::from_utf8_lossy(alloc, error.as_bytes()),
+    }
 }
 
 /// A text with its encoded words decoded, other bytes read as UTF-8 lossily: what `decoded` does to a value, for a text that
@@ -26,7 +48,7 @@ pub fn decoded_words(alloc: Global, text: &[u8]) -> Result<String, AllocError>
     ensures { IfOk result (λ decoded. string_bytes decoded ≡ words_decoded text.now) }
 {
     let said = say(alloc, Vec::from_slice(alloc, text)?)?;
-    String::from_utf8_lossy(alloc, &said)
+    read_lossily(alloc, said)
 }
 
 /// The value as bytes, with folds made single spaces.

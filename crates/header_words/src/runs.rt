@@ -22,7 +22,7 @@ pub fn say(alloc: Global, value: Vec<u8>) -> Result<Vec<u8>, AllocError>
 fn has_question(value: &[u8]) -> bool
     ensures { result ≡ list_any is_question value.now }
 {
-    value.iter().any(|byte| *byte == b'?')
+    value.contains(&b'?')
 }
 
 fn say_runs(alloc: Global, value: &[u8]) -> Result<Vec<u8>, AllocError>
