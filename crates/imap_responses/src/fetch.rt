@@ -50,6 +50,7 @@ fn read_name(name: &[u8]) -> Name
     }
 }
 
+#[inline(never)]
 fn name_len(bytes: &[u8]) -> usize
     ensures len { result ≡ len_of_name false bytes.now }
     ensures within { result ≤ length bytes.now }
@@ -170,11 +171,14 @@ fn separator(bytes: &[u8]) -> Result<(bool, &[u8]), Stop>
     }
 }
 
+/// Room for so many items is made at first: servers seldom tell more of a message.
+const USUAL: usize = 8;
+
 /// One item or more, and the `)` behind them.
 fn items(alloc: Global, bytes: &[u8]) -> Result<(Vec<Item<'_>>, &[u8]), Stop>
     ensures { Gives (λ x. (things_of x.0.items, x.1.now)) result (items_at (length bytes.now) bytes.now) }
 {
-    let mut items = Vec::new(alloc);
+    let mut items = Vec::with_capacity(alloc, USUAL)?;
     let mut left = bytes;
     for _ in 0..bytes.len() {
         let (one, rest) = item(alloc, left)?;

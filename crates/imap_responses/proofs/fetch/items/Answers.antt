@@ -7,7 +7,7 @@ use Rattle.imap_responses.proofs.fetch.items.Goals as goal
 
 pub returns-in_err-one : goal.returns-in_err-one
 returns-in_err-one c =
-    let p = err_from_is_err_and c.from_residual.result c.from_residual.ensures.1 in
+    let p = err_from_is_err_and c.from_residual-in_err-one.result c.from_residual-in_err-one.ensures.1 in
     rw (p.1, p.2) (no_item c.in_err-one.field-0.0 (things_of c.loop.items.items) (length c.args.bytes.now) c.loop.counter c.loop.left.now (items_at (length c.args.bytes.now) c.args.bytes.now) c.loop-test.true c.in_err-one.ensures c.loop.invariant)
 
 pub returns-in_err-ends : goal.returns-in_err-ends
