@@ -1,9 +1,8 @@
 -- A text that is written to a page some of it at a time.
 use Rattle.std.proofs.Common.{◌≡◌, ℕ, List, [], ◌∷◌, ◌++◌, length, arith, refl, sym, ap, ◌∙◌, append_assoc}
-use lib.Utf8.{encode}
-use Rattle.std.specs.Str.{IsUtf8, chars, is_utf8}
+use Rattle.std.specs.Str.{IsUtf8, chars}
 use Rattle.std.proofs.lemmas.List.{append-nil}
-use Rattle.std.proofs.lemmas.Str.{IsUtf8-from_is_utf8, chars-append}
+use Rattle.std.proofs.lemmas.Str.{chars-append}
 use Rattle.html_tokens.specs.Token.{Token}
 use Rattle.html_tokens.specs.Token.Token.{Char}
 use Rattle.html_tokens.specs.Tokenizer.{shown}
@@ -15,7 +14,7 @@ use Rattle.std.specs.declared.result.Result.TheVariants.{Ok, Err}
 use Rattle.page_writer.specs.Tables.{Name}
 use Rattle.webmail.specs.Frame.{text, with_tokens}
 use Rattle.webmail.specs.Text.{is_return, line_feeds}
-use Rattle.webmail.proofs.LineFeeds.{line_feeds-clean}
+use Rattle.webmail.proofs.LineFeeds.{line_feeds-clean, line_feeds-nil}
 use Rattle.webmail.specs.Gathered.{Gathers}
 
 shown-append : (xs ys : List ℕ) → shown_tokens (xs ++ ys) ≡ shown_tokens xs ++ shown_tokens ys
@@ -25,10 +24,6 @@ shown-append (x ∷ xs) ys = ap (λ ts. Char (shown x) ∷ ts) (shown-append xs 
 pub text-nil : text [] ≡ []
 unfolding chars
 text-nil = refl
-
-pub line_feed-valid : IsUtf8 (10 ∷ [])
-unfolding is_utf8 chars encode
-line_feed-valid = IsUtf8-from_is_utf8 (10 ∷ []) refl
 
 pub text-append : (xs ys : List ℕ) → IsUtf8 xs → text (xs ++ ys) ≡ text xs ++ text ys
 text-append xs ys valid = ap shown_tokens (chars-append xs ys valid) ∙ shown-append (chars xs) (chars ys)
@@ -61,17 +56,45 @@ gathers-written before written gathered all left more valid also e is none =
       opened = ap (λ (p : Page). p.opened) is;
     }
 
--- the last lines are written
-pub last_lines : {X Y : Type 0} (result : Result X Y) (first before after : Page) (lines rest all whole : List ℕ) → IsUtf8 lines → all ≡ lines ++ rest
+-- the last of a text is gathered
+pub gathers-last : {X Y : Type 0} (result : Result X Y) (first before after : Page) (gathered lines left rest whole : List ℕ)
+    → ((more : List ℕ) → before.written ++ (text lines ++ text (line_feeds rest ++ more)) ≡ first.written ++ (text gathered ++ text (line_feeds whole ++ more))) → before.opened ≡ first.opened
     → position_or_len is_return rest ≡ length rest
-    → before.written ++ (text lines ++ text (line_feeds rest)) ≡ first.written ++ text (line_feeds whole) → before.opened ≡ first.opened
-    → OnOk result (after ≡ with_tokens before (text all) before.opened) → OnOk result (after ≡ with_tokens first (text (line_feeds whole)) first.opened)
-last_lines (Err e) first before after lines rest all whole valid is none written opened ok = tt
-last_lines (Ok x) first before after lines rest all whole valid is none written opened ok =
-    let tokens : before.written ++ text all ≡ first.written ++ text (line_feeds whole) =
-    ap (λ t. before.written ++ text t) is
-    ∙ ap (λ ts. before.written ++ ts) (text-append lines rest valid)
-    ∙ ap (λ t. before.written ++ (text lines ++ text t)) (sym (line_feeds-clean rest (omega arith)))
-    ∙ written in
+    → OnOk result (Gathers before lines after left rest) → OnOk result (Gathers first gathered after left (line_feeds whole))
+gathers-last (Err e) first before after gathered lines left rest whole written opened none ok = tt
+gathers-last (Ok x) first before after gathered lines left rest whole written opened none ok = record {
+  written = λ more. ok.written more ∙ ap (λ t. before.written ++ (text lines ++ text (t ++ more))) (sym (line_feeds-clean rest (omega arith))) ∙ written more;
+  opened = ok.opened ∙ opened;
+}
+
+-- what is gathered is written
+pub gathers-all : {X Y : Type 0} (result : Result X Y) (first before after : Page) (none gathered written whole : List ℕ)
+    → none ≡ [] → Gathers first none before gathered whole → written ≡ gathered
+    → OnOk result (after ≡ with_tokens before (text written) before.opened) → OnOk result (after ≡ with_tokens first (text whole) first.opened)
+gathers-all (Err e) first before after none gathered written whole is more same ok = tt
+gathers-all (Ok x) first before after none gathered written whole is more same ok =
+    let tokens : before.written ++ text written ≡ first.written ++ text whole =
+    ap (λ t. before.written ++ text t) same
+    ∙ ap (λ ts. before.written ++ ts) (sym (append-nil (text gathered)))
+    ∙ ap (λ ts. before.written ++ (text gathered ++ ts)) (sym text-nil)
+    ∙ more.written []
+    ∙ ap (λ t. first.written ++ (text t ++ text (whole ++ []))) is
+    ∙ ap (λ ts. first.written ++ (ts ++ text (whole ++ []))) text-nil
+    ∙ ap (λ t. first.written ++ text t) (append-nil whole) in
     ok ∙ ap (λ (ts : List Token). record { written = ts; opened = before.opened }) tokens
-    ∙ ap (λ (names : List Name). record { written = first.written ++ text (line_feeds whole); opened = names }) opened
+    ∙ ap (λ (names : List Name). record { written = first.written ++ text whole; opened = names }) more.opened
+
+-- two texts one after the other
+pub gathers-two : (first middle last : Page) (a b c x y more : List ℕ) → Gathers first a middle b x → Gathers middle b last c y
+    → last.written ++ (text c ++ text more) ≡ first.written ++ (text a ++ text (x ++ (y ++ more)))
+gathers-two first middle last a b c x y more one two = two.written more ∙ one.written (y ++ more)
+
+-- a text of which nothing is left
+pub gathers-from : (first after : Page) (gathered left whole : List ℕ) → left ≡ []
+    → ((more : List ℕ) → after.written ++ (text gathered ++ text (line_feeds left ++ more)) ≡ first.written ++ (text [] ++ text (whole ++ more))) → after.opened ≡ first.opened
+    → Gathers first [] after gathered whole
+gathers-from first after gathered left whole none written opened = record {
+  written = λ more.
+      ap (λ t. after.written ++ (text gathered ++ text (t ++ more))) (sym (ap line_feeds none ∙ line_feeds-nil)) ∙ written more;
+  opened = opened;
+}

@@ -83,6 +83,59 @@ next_line rest line after found l a =
     ∙ ap (λ t. t ++ 10 ∷ line_feeds (without_line_feed (after_first is_return rest))) l
     ∙ sym (line_feeds-step rest found)
 
+-- a byte that is no CR stays
+line_feeds-other : (c : ℕ) (rest : List ℕ) → is_return c ≡ false → line_feeds (c ∷ rest) ≡ c ∷ line_feeds rest
+unfolding line_feeds
+line_feeds-other c rest other =
+    let after = slice_split_some is_return rest in
+    ap on_lines (pieces_of c rest after.head after.tail other after.is) ∙ sym (ap (λ ps. c ∷ on_lines ps) after.is)
+
+line_feeds-return : (c : ℕ) (rest : List ℕ) → is_return c ≡ true → line_feeds (c ∷ rest) ≡ 10 ∷ line_feeds (without_line_feed rest)
+line_feeds-return c rest returns =
+    let e : c ≡ 13 = eqb-true c 13 returns in
+    rw e (line_feeds-step (13 ∷ rest) (omega arith))
+
+pub line_feeds-nil : line_feeds [] ≡ []
+unfolding line_feeds
+line_feeds-nil = refl
+
+-- before a byte that is no LF a text ends in itself
+pub line_feeds-cut : (front : List ℕ) (c : ℕ) (back : List ℕ) → eqb c 10 ≡ false → line_feeds (front ++ c ∷ back) ≡ line_feeds front ++ line_feeds (c ∷ back)
+line_feeds-cut [] c back other = ap (λ t. t ++ line_feeds (c ∷ back)) (sym line_feeds-nil)
+line_feeds-cut (a ∷ []) c back other =
+    elim (cases_Bool (is_return a)) [
+      | inl returns ↦
+          line_feeds-return a (c ∷ back) returns ∙ ap (λ t. 10 ∷ line_feeds t) (without_on c back other)
+          ∙ ap (λ t. (10 ∷ t) ++ line_feeds (c ∷ back)) (sym line_feeds-nil) ∙ ap (λ t. t ++ line_feeds (c ∷ back)) (sym (line_feeds-return a [] returns))
+      | inr stays ↦
+          line_feeds-other a (c ∷ back) stays
+          ∙ ap (λ t. (a ∷ t) ++ line_feeds (c ∷ back)) (sym line_feeds-nil) ∙ ap (λ t. t ++ line_feeds (c ∷ back)) (sym (line_feeds-other a [] stays))
+    ]
+line_feeds-cut (a ∷ d ∷ front) c back other =
+    let next = line_feeds-cut (d ∷ front) c back other in
+    let after = line_feeds-cut front c back other in
+    elim (cases_Bool (is_return a)) [
+      | inl returns ↦ elim (cases_Bool (eqb d 10)) [
+        | inl feeds ↦
+            line_feeds-return a (d ∷ front ++ c ∷ back) returns ∙ ap (λ t. 10 ∷ line_feeds t) (without_here d (front ++ c ∷ back) feeds)
+            ∙ ap (λ t. 10 ∷ t) after
+            ∙ ap (λ t. t ++ line_feeds (c ∷ back)) (sym (line_feeds-return a (d ∷ front) returns ∙ ap (λ t. 10 ∷ line_feeds t) (without_here d front feeds)))
+        | inr stands ↦
+            line_feeds-return a (d ∷ front ++ c ∷ back) returns ∙ ap (λ t. 10 ∷ line_feeds t) (without_on d (front ++ c ∷ back) stands)
+            ∙ ap (λ t. 10 ∷ t) next
+            ∙ ap (λ t. t ++ line_feeds (c ∷ back)) (sym (line_feeds-return a (d ∷ front) returns ∙ ap (λ t. 10 ∷ line_feeds t) (without_on d front stands)))
+      ]
+      | inr stays ↦
+          line_feeds-other a (d ∷ front ++ c ∷ back) stays ∙ ap (λ t. a ∷ t) next
+          ∙ ap (λ t. t ++ line_feeds (c ∷ back)) (sym (line_feeds-other a (d ∷ front) stays))
+    ]
+
+-- around a U+FFFD
+pub line_feeds-replaced : (front back : List ℕ) → line_feeds (front ++ (239 ∷ 191 ∷ 189 ∷ back)) ≡ line_feeds front ++ (239 ∷ 191 ∷ 189 ∷ line_feeds back)
+line_feeds-replaced front back =
+    line_feeds-cut front 239 (191 ∷ 189 ∷ back) refl
+    ∙ ap (λ t. line_feeds front ++ t) (line_feeds-other 239 (191 ∷ 189 ∷ back) refl ∙ ap (λ t. 239 ∷ t) (line_feeds-other 191 (189 ∷ back) refl ∙ ap (λ t. 191 ∷ t) (line_feeds-other 189 back refl)))
+
 -- valid text is read as it is
 pub lossy-valid : (bytes text : List ℕ) → text ≡ bytes → IsUtf8 bytes → text ≡ utf8_lossy bytes
 lossy-valid bytes text e valid = e ∙ sym (utf8_lossy-IsUtf8 bytes valid)

@@ -40,11 +40,18 @@ fn write_utf8(alloc: Global, out: &mut PageOut, bytes: &[u8]) -> Result<(), Memo
     }
 }
 
+/// Writes bytes that aren't all UTF-8, with U+FFFD for each sequence that is none.
 fn write_lossily(alloc: Global, out: &mut PageOut, bytes: &[u8]) -> Result<(), Memory>
     ensures { OnOk result (out.new ≡ with_tokens out.old (text_tokens (line_feeds (utf8_lossy bytes.now))) out.old.opened) }
 {
-    let text = String::from_utf8_lossy(alloc, bytes)?;
-    write_lines(alloc, out, &text)
+    let mut gathered = String::new(alloc);
+    for chunk in bytes.utf8_chunks() {
+        add_lines(out, &mut gathered, chunk.valid())?;
+        if !chunk.invalid().is_empty() {
+            add_text(out, &mut gathered, "\u{FFFD}")?;
+        }
+    }
+    out.chars(&gathered)
 }
 
 /// Writes a text with CR LF and lone CR as LF.
@@ -64,31 +71,38 @@ fn has_return(text: &str) -> bool
     memchr(b'\r', text.as_bytes()).is_some()
 }
 
-/// So many bytes of lines are written together: all lines at once would be a second copy of the text.
-const GATHERED: usize = 65_536;
-
 fn write_with_line_feeds(alloc: Global, out: &mut PageOut, text: &str) -> Result<(), Memory>
     ensures { OnOk result (out.new ≡ with_tokens out.old (text_tokens (line_feeds text.now)) out.old.opened) }
 {
-    let mut lines = String::new(alloc);
-    let mut rest = text;
-    while let Some((line, after)) = cut(rest) {
-        add_line(out, &mut lines, line)?;
-        rest = without_first_line_feed(after);
-    }
-    lines.push_str(rest)?;
-    out.chars(&lines)
+    let mut gathered = String::new(alloc);
+    add_lines(out, &mut gathered, text)?;
+    out.chars(&gathered)
 }
 
-/// Adds a line to those that are gathered, and writes them once they are many.
-fn add_line(out: &mut PageOut, lines: &mut String, line: &str) -> Result<(), Memory>
-    ensures { OnOk result (Gathers out.old (string_bytes lines.old) out.new (string_bytes lines.new) (line.now ++ 10 ∷ [])) }
+/// Adds a text with CR LF and lone CR as LF to what is gathered.
+fn add_lines(out: &mut PageOut, gathered: &mut String, text: &str) -> Result<(), Memory>
+    ensures { OnOk result (Gathers out.old (string_bytes gathered.old) out.new (string_bytes gathered.new) (line_feeds text.now)) }
 {
-    lines.push_str(line)?;
-    lines.push('\n')?;
-    if lines.len() >= GATHERED {
-        out.chars(lines)?;
-        lines.clear();
+    let mut rest = text;
+    while let Some((line, after)) = cut(rest) {
+        add_text(out, gathered, line)?;
+        add_text(out, gathered, "\n")?;
+        rest = without_first_line_feed(after);
+    }
+    add_text(out, gathered, rest)
+}
+
+/// So many bytes of a text are written together: all at once would be a second copy of it.
+const GATHERED: usize = 65_536;
+
+/// Adds a text to what is gathered, and writes that once it is much.
+fn add_text(out: &mut PageOut, gathered: &mut String, text: &str) -> Result<(), Memory>
+    ensures { OnOk result (Gathers out.old (string_bytes gathered.old) out.new (string_bytes gathered.new) text.now) }
+{
+    gathered.push_str(text)?;
+    if gathered.len() >= GATHERED {
+        out.chars(gathered)?;
+        gathered.clear();
     }
     Ok(())
 }
