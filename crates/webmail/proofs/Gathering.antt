@@ -1,8 +1,9 @@
 -- A text that is written to a page some of it at a time.
 use Rattle.std.proofs.Common.{◌≡◌, ℕ, List, [], ◌∷◌, ◌++◌, length, arith, refl, sym, ap, ◌∙◌, append_assoc}
-use Rattle.std.specs.Str.{IsUtf8, chars}
+use lib.Utf8.{encode}
+use Rattle.std.specs.Str.{IsUtf8, chars, is_utf8}
 use Rattle.std.proofs.lemmas.List.{append-nil}
-use Rattle.std.proofs.lemmas.Str.{chars-append}
+use Rattle.std.proofs.lemmas.Str.{IsUtf8-from_is_utf8, chars-append}
 use Rattle.html_tokens.specs.Token.{Token}
 use Rattle.html_tokens.specs.Token.Token.{Char}
 use Rattle.html_tokens.specs.Tokenizer.{shown}
@@ -24,6 +25,10 @@ shown-append (x ∷ xs) ys = ap (λ ts. Char (shown x) ∷ ts) (shown-append xs 
 pub text-nil : text [] ≡ []
 unfolding chars
 text-nil = refl
+
+pub line_feed-valid : IsUtf8 (10 ∷ [])
+unfolding is_utf8 chars encode
+line_feed-valid = IsUtf8-from_is_utf8 (10 ∷ []) refl
 
 pub text-append : (xs ys : List ℕ) → IsUtf8 xs → text (xs ++ ys) ≡ text xs ++ text ys
 text-append xs ys valid = ap shown_tokens (chars-append xs ys valid) ∙ shown-append (chars xs) (chars ys)
@@ -97,4 +102,13 @@ gathers-from first after gathered left whole none written opened = record {
   written = λ more.
       ap (λ t. after.written ++ (text gathered ++ text (t ++ more))) (sym (ap line_feeds none ∙ line_feeds-nil)) ∙ written more;
   opened = opened;
+}
+
+-- more was gathered, and then perhaps written
+pub gathers-on : {X Y : Type 0} (result : Result X Y) (before after : Page) (gathered all left more : List ℕ) → IsUtf8 gathered → IsUtf8 more → all ≡ gathered ++ more
+    → OnOk result (Gathers before all after left []) → OnOk result (Gathers before gathered after left more)
+gathers-on (Err e) before after gathered all left more valid also is ok = tt
+gathers-on (Ok x) before after gathered all left more valid also is ok = record {
+  written = λ rest. ok.written rest ∙ (gathers-more before gathered all more valid also is).written rest;
+  opened = ok.opened;
 }

@@ -85,21 +85,36 @@ fn add_lines(out: &mut PageOut, gathered: &mut String, text: &str) -> Result<(),
 {
     let mut rest = text;
     while let Some((line, after)) = cut(rest) {
-        add_text(out, gathered, line)?;
-        add_text(out, gathered, "\n")?;
+        add_line(out, gathered, line)?;
         rest = without_first_line_feed(after);
     }
     add_text(out, gathered, rest)
 }
 
-/// So many bytes of a text are written together: all at once would be a second copy of it.
-const GATHERED: usize = 65_536;
+/// Adds a line and an LF to what is gathered.
+fn add_line(out: &mut PageOut, gathered: &mut String, line: &str) -> Result<(), Memory>
+    ensures { OnOk result (Gathers out.old (string_bytes gathered.old) out.new (string_bytes gathered.new) (line.now ++ 10 ∷ [])) }
+{
+    gathered.push_str(line)?;
+    gathered.push('\n')?;
+    write_many(out, gathered)
+}
 
-/// Adds a text to what is gathered, and writes that once it is much.
+/// Adds a text to what is gathered.
 fn add_text(out: &mut PageOut, gathered: &mut String, text: &str) -> Result<(), Memory>
     ensures { OnOk result (Gathers out.old (string_bytes gathered.old) out.new (string_bytes gathered.new) text.now) }
 {
     gathered.push_str(text)?;
+    write_many(out, gathered)
+}
+
+/// So many bytes of a text are written together: all at once would be a second copy of it.
+const GATHERED: usize = 65_536;
+
+/// Writes what is gathered once it is much.
+fn write_many(out: &mut PageOut, gathered: &mut String) -> Result<(), Memory>
+    ensures { OnOk result (Gathers out.old (string_bytes gathered.old) out.new (string_bytes gathered.new) []) }
+{
     if gathered.len() >= GATHERED {
         out.chars(gathered)?;
         gathered.clear();

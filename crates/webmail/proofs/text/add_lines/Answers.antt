@@ -2,7 +2,7 @@ use Rattle.std.proofs.Common.{ap, sym, refl, ◌∙◌, ◌++◌, [], ◌∷◌,
 use Rattle.std.specs.Prelude.{string_bytes}
 use Rattle.webmail.specs.Text.{line_feeds, without_line_feed}
 use Rattle.webmail.specs.Frame.{text}
-use Rattle.webmail.proofs.Gathering.{gathers-last, gathers-two}
+use Rattle.webmail.proofs.Gathering.{gathers-last}
 use Rattle.webmail.proofs.LineFeeds.{next_line}
 use Rattle.webmail.proofs.text.add_lines.Goals as goal
 
@@ -18,16 +18,15 @@ loop-line-preserved c =
     record {
       utf8 = c.without_first_line_feed-rest.utf8;
       written = λ more.
-          gathers-two out c.add_text.new.out c.add_text-in-Some.new.out before (string_bytes c.add_text.new.gathered) (string_bytes c.add_text-in-Some.new.gathered) line (10 ∷ []) (line_feeds after ++ more)
-          c.in_ok-add_text.ensures c.in_ok-add_text-2.ensures
+          c.in_ok-add_line.ensures.written (line_feeds after ++ more)
           ∙ ap (λ t. out.written ++ (text before ++ text t))
-          (sym (append_assoc line (10 ∷ []) (line_feeds after ++ more)) ∙ sym (append_assoc (line ++ 10 ∷ []) (line_feeds after) more)
+          (sym (append_assoc (line ++ 10 ∷ []) (line_feeds after) more)
           ∙ ap (λ t. t ++ more) (next_line c.loop-line.rest.now line after c.in-Some.ensures.found c.in-Some.ensures.line
           (c.without_first_line_feed-rest.ensures ∙ ap without_line_feed c.in-Some.ensures.after)))
           ∙ c.loop-line.invariant.written more;
-      opened = c.in_ok-add_text-2.ensures.opened ∙ c.in_ok-add_text.ensures.opened ∙ c.loop-line.invariant.opened;
+      opened = c.in_ok-add_line.ensures.opened ∙ c.loop-line.invariant.opened;
     }
 
 pub returns : goal.returns
-returns c = gathers-last c.add_text-2.result c.args.out.now c.loop-line.out c.add_text-2.new.out (string_bytes c.args.gathered.now) (string_bytes c.loop-line.gathered) (string_bytes c.add_text-2.new.gathered) c.loop-line.rest.now c.args.text.now
-    c.loop-line.invariant.written c.loop-line.invariant.opened c.in_default.ensures.none c.add_text-2.ensures
+returns c = gathers-last c.add_text.result c.args.out.now c.loop-line.out c.add_text.new.out (string_bytes c.args.gathered.now) (string_bytes c.loop-line.gathered) (string_bytes c.add_text.new.gathered) c.loop-line.rest.now c.args.text.now
+    c.loop-line.invariant.written c.loop-line.invariant.opened c.in_default.ensures.none c.add_text.ensures
