@@ -38,15 +38,15 @@ fn write_of(
 #[test]
 fn reads_a_source_to_its_end(rt: HostRuntime) -> Result<(), Fail> {
     let alloc = rt.alloc();
-    let long = bytes_of(alloc, 10_000)?;
+    let long = bytes_of(alloc, 150_000)?;
     for (failing, limit, want) in [
-        ([0], 10_000, Ok(10_000)),
-        ([0], 9_999, Err(InputFault::Long)),
+        ([0], 150_000, Ok(150_000)),
+        ([0], 149_999, Err(InputFault::Long)),
         ([0], 0, Err(InputFault::Long)),
-        ([1], 10_000, Err(InputFault::Failed)),
-        ([2], 10_000, Err(InputFault::Failed)),
-        ([4], 10_000, Err(InputFault::Failed)),
-        ([5], 10_000, Ok(10_000)),
+        ([1], 150_000, Err(InputFault::Failed)),
+        ([2], 150_000, Err(InputFault::Failed)),
+        ([4], 150_000, Err(InputFault::Failed)),
+        ([5], 150_000, Ok(150_000)),
     ] {
         let got = read_of(alloc, &long, &failing, limit).map(|bytes| bytes.len());
         assert_eq!(rt; got, want, "failing {failing:?}, limit {limit}");
