@@ -15,11 +15,11 @@ fn read_of(
     alloc: Global,
     bytes: &[u8],
     failing: &[u64],
-    limit: u16,
+    limit: u32,
 ) -> Result<Vec<u8>, InputFault> {
     let failing = Vec::from_slice(alloc, failing)?;
     let mut source = MemorySource::new(Bytes::from_slice(alloc, bytes)?, failing);
-    read_to_end(alloc, &mut source, usize::from(limit))
+    read_to_end(alloc, &mut source, limit as usize)
 }
 
 /// The outcome of writing a piece, and what a sink of this room then holds.
