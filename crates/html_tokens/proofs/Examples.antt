@@ -4,7 +4,7 @@ use Rattle.std.specs.Str.{chars as text_chars, is_utf8}
 use Rattle.std.specs.Str.Lossy.{utf8_lossy, utf8_valid_len, utf8_error_len}
 use lib.Utf8.{encode}
 use Rattle.html_tokens.specs.Token.{Token}
-use Rattle.html_tokens.specs.Token.Token.{Start, End, Char, Comment, Doctype}
+use Rattle.html_tokens.specs.Token.Token.{Start, End, Char, Comment}
 use Rattle.html_tokens.specs.Tokenizer.{tokens, tokens_of_bytes, chars}
 use Rattle.html_tokens.proofs.Reading.{reading, AreRead, attribute}
 

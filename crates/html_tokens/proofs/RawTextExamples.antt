@@ -3,7 +3,7 @@ use Rattle.std.proofs.Common.{◌≡◌, ℕ, List, [], ◌∷◌, ◌++◌, cod
 use Rattle.html_tokens.specs.Token.{Token}
 use Rattle.html_tokens.specs.Token.Token.{Start, End, Char}
 use Rattle.html_tokens.specs.Tokenizer.{tokens, chars}
-use Rattle.html_tokens.proofs.Reading.{reading, AreRead, attribute}
+use Rattle.html_tokens.proofs.Reading.{reading, AreRead}
 
 abbrev rcdata_table : List (List ℕ × List Token)
 rcdata_table = (codes "<title>a<b></title>c", Start (codes "title") [] ∷ chars (codes "a<b>") ++ End (codes "title") ∷ Char 99 ∷ [])

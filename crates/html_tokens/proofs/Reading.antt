@@ -1,5 +1,5 @@
 -- A table of texts and their tokens, and what a proof unfolds to compute it.
-use Rattle.std.proofs.Common.{◌≡◌, ℕ, List, [], ◌∷◌, map}
+use Rattle.std.proofs.Common.{◌≡◌, ℕ, List, map}
 use Rattle.html_tokens.specs.Token.{Attribute, Token}
 use Rattle.html_tokens.specs.References.{reference}
 use Rattle.html_tokens.specs.Tokenizer.{look, again, step, at_end, read, newlines, tokens}

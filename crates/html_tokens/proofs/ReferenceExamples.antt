@@ -3,7 +3,7 @@ use Rattle.std.proofs.Common.{◌≡◌, ℕ, List, [], ◌∷◌, ◌++◌, cod
 use Rattle.html_tokens.specs.Token.{Token}
 use Rattle.html_tokens.specs.Token.Token.{Start, Char}
 use Rattle.html_tokens.specs.References.{reference}
-use Rattle.html_tokens.specs.Tokenizer.{tokens, chars}
+use Rattle.html_tokens.specs.Tokenizer.{chars}
 use Rattle.html_tokens.proofs.Reading.{reading, AreRead, attribute}
 
 -- whatever comes after it

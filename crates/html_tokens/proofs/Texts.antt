@@ -1,5 +1,5 @@
 -- Texts as their characters.
-use Rattle.std.proofs.Common.{◌≡◌, ℕ, Bool, true, List, chars, encode_utf8_all, sym, ap, ◌∙◌, IsUtf8}
+use Rattle.std.proofs.Common.{◌≡◌, ℕ, true, List, chars, encode_utf8_all, sym, ap, ◌∙◌, IsUtf8}
 use Rattle.std.specs.Str.{bytes_eq}
 use Rattle.std.proofs.lemmas.Slice.Eq.{bytes_eq-Decides}
 use Rattle.std.proofs.lemmas.Bool.Decides.{same_from_decides}

@@ -1,5 +1,5 @@
 -- The tokens that the code's tokens stand for.
-use Rattle.std.specs.Prelude.{ℕ, List, [], ◌∷◌, ◌++◌, chars}
+use Rattle.std.specs.Prelude.{List, [], ◌∷◌, ◌++◌, chars}
 use Rattle.html_tokens.specs.declared.token.Token.TheVariants as held
 use Rattle.html_tokens.specs.declared.token.Token.{Token as HeldToken}
 use Rattle.html_tokens.specs.Token.{Token}

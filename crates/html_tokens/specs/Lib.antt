@@ -6,3 +6,15 @@ pub mod States
 pub mod Rows
 pub mod Tokenizer
 pub mod Held
+pub mod Contents
+pub mod Scripts
+pub mod Input
+pub mod Scanned
+pub mod Cuts
+pub mod Closings
+pub mod CodeReferences
+pub mod Tags
+pub mod Openings
+pub mod Stepping
+pub mod NameSets
+pub mod Kept

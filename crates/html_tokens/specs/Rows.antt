@@ -1,6 +1,6 @@
 -- The rows of the tokenizer: what each state does with the next character, in the order of the HTML Standard's section 13.2.5.
 -- Parse errors are not reported, so a test of the Standard that only reports one has no test here.
-use Rattle.std.specs.Prelude.{ℕ, Bool, true, false, ◌&&◌, ◌||◌, ◌==◌, if◌then◌else◌, List, [], ◌∷◌, ◌++◌, map, take, codes}
+use Rattle.std.specs.Prelude.{ℕ, true, false, ◌&&◌, ◌||◌, ◌==◌, if◌then◌else◌, List, [], ◌∷◌, ◌++◌, map, take, codes}
 use Rattle.html_tokens.specs.Token.{Token}
 use Rattle.html_tokens.specs.Token.Token.{Char, Comment, Doctype}
 use Rattle.html_tokens.specs.Characters.{exclamation_mark, quotation_mark, ampersand, apostrophe, hyphen, solidus, less_than, equals_sign, greater_than, question_mark, is_letter, is_space, lower}

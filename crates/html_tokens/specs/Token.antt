@@ -1,5 +1,5 @@
 -- What a text is read as: a list of tokens (HTML Standard 13.2.5). A text is the list of its characters' numbers.
-use Rattle.std.specs.Prelude.{ℕ, List, [], ◌∷◌, chars, string_bytes, slice_index_or, String}
+use Rattle.std.specs.Prelude.{ℕ, List, [], chars, string_bytes, slice_index_or, String}
 
 pub record Attribute : Type 0 where
   pub name : List ℕ

@@ -1,6 +1,6 @@
 //! The attributes of a start tag.
-ghost use Rattle.std.specs.Prelude.{◌≡◌, ℕ, ◌<◌, ◌↔◌, List, [], ◌∷◌, ◌++◌, length, chars, encode_utf8_all, IsTrue, OnOk, OnErr};
-ghost use Rattle.html_tokens.specs.Token.{name_at, value_at, Attribute};
+ghost use Rattle.std.specs.Prelude.{◌≡◌, ℕ, ◌<◌, ◌↔◌, List, [], ◌∷◌, ◌++◌, length, map, chars, encode_utf8_all, IsTrue, OnOk, OnErr};
+ghost use Rattle.html_tokens.specs.Token.{name_at, value_at, attribute_of, Attribute};
 ghost use Rattle.html_tokens.specs.States.{has_name};
 
 use crate::Memory;
@@ -30,6 +30,13 @@ impl Attributes {
         Attributes {
             pairs: Vec::new(alloc),
         }
+    }
+
+    /// The attributes with these names and values.
+    pub(crate) fn from_pairs(pairs: Vec<(String, String)>) -> Attributes
+        ensures { result ≡ map attribute_of pairs.items }
+    {
+        Attributes { pairs }
     }
 
     /// Adds an attribute at the end.

@@ -1,4 +1,4 @@
-use Rattle.std.proofs.Common.{◌≡◌, Bool, List, ℕ, sym, ap, ◌∙◌, chars, string_bytes}
+use Rattle.std.proofs.Common.{List, ℕ, sym, ap, ◌∙◌, chars}
 use Rattle.html_tokens.specs.States.{same}
 use Rattle.html_tokens.proofs.Texts.{same_text, same_sym}
 use Rattle.html_tokens.proofs.Pairs.{has_name-found, has_name-passed}

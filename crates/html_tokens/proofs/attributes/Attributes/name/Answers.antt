@@ -1,5 +1,4 @@
-use Rattle.std.proofs.Common.{◌≡◌, ◌<◌, sym, ◌∙◌, encode_utf8_all, length}
-use Rattle.html_tokens.specs.Token.{name_at}
+use Rattle.std.proofs.Common.{sym, ◌∙◌}
 use Rattle.html_tokens.proofs.Pairs.{name_at-map}
 use Rattle.html_tokens.proofs.attributes.Attributes.name.Goals as goal
 

@@ -1,5 +1,4 @@
-use Rattle.std.proofs.Common.{◌≡◌, ◌<◌, sym, ◌∙◌, chars, ap, length}
-use Rattle.html_tokens.specs.Token.{value_at}
+use Rattle.std.proofs.Common.{sym, ◌∙◌, chars, ap}
 use Rattle.html_tokens.proofs.Pairs.{value_at-map}
 use Rattle.html_tokens.proofs.attributes.Attributes.value.Goals as goal
 

@@ -1,0 +1,106 @@
+-- A set of names: whether it has a name, and after one more.
+use Rattle.std.proofs.Common.{◌≡◌, ℕ, suc, ◌<◌, ◌≤◌, Bool, true, false, not, ◌||◌, ◌==◌, nat_lt, nat_le, cond, List, [], ◌∷◌, length, get_or, refl, sym, ap, ◌∙◌, arith, inl, inr}
+use Rattle.std.proofs.lemmas.Bool.{cases_Bool, and_from, and_parts, lt-ltb, ltb-true, le-leb, leb-true, false_from_ne_true}
+use Rattle.std.proofs.lemmas.Bool.Decides.{Decides-eqb, Decides-like, same_from_decides, nat_tests}
+use Rattle.std.proofs.lemmas.Slice.Eq.{bytes_eq-Decides}
+use Rattle.std.proofs.lemmas.Map.Text.{btree_set_updates_text}
+use Rattle.std.specs.List.{list_all}
+use Rattle.std.specs.Ordering.{nat_cmp, is_eq}
+use Rattle.std.specs.Cmp.Lexicographic.{slice_cmp}
+use Rattle.std.specs.Str.{bytes_eq}
+use Rattle.std.specs.String.{string_cmp, string_bytes}
+use Rattle.std.specs.BTreeSet.{Updates, UpdatesBy, IsEmpty, contains, contains_text}
+use Rattle.html_tokens.specs.declared.name_set.NameSet.{NameSet}
+use Rattle.html_tokens.specs.NameSets.{packed, is_short, has}
+use Rattle.html_tokens.proofs.PackedNames.{AreBytes, packed_apart}
+
+bytes_pass : (xs : List ℕ) → ((i : ℕ) → get_or xs i 0 < 256) → list_all (λ b. nat_lt b 256) xs ≡ true
+bytes_pass [] _ = refl
+bytes_pass (x ∷ xs) h = and_from (nat_lt x 256) (list_all (λ b. nat_lt b 256) xs) (lt-ltb x 256 (h 0)) (bytes_pass xs (λ i. h (suc i)))
+
+bytes_passed : (xs : List ℕ) → list_all (λ b. nat_lt b 256) xs ≡ true → AreBytes xs
+bytes_passed [] _ = tt
+bytes_passed (x ∷ xs) e =
+    let both = and_parts (nat_lt x 256) (list_all (λ b. nat_lt b 256) xs) e in
+    (ltb-true x 256 both.0, bytes_passed xs both.1)
+
+pub short_name : (name : List ℕ) → length name ≤ 15 → ((i : ℕ) → get_or name i 0 < 256) → is_short name ≡ true
+unfolding is_short
+short_name name len bytes = and_from (nat_le (length name) 15) (list_all (λ b. nat_lt b 256) name) (le-leb (length name) 15 len) (bytes_pass name bytes)
+
+pub long_name : (name : List ℕ) → 15 < length name → is_short name ≡ false
+unfolding is_short
+long_name name len = false_from_ne_true (is_short name) (λ e.
+    let le = leb-true (length name) 15 (and_parts (nat_le (length name) 15) (list_all (λ b. nat_lt b 256) name) e).0 in omega (arith, le, len))
+
+short_bytes : (name : List ℕ) → is_short name ≡ true → AreBytes name
+unfolding is_short
+short_bytes name e = bytes_passed name (and_parts (nat_le (length name) 15) (list_all (λ b. nat_lt b 256) name) e).1
+
+-- two short names are the same where their numbers are
+same_number : (xs ys : List ℕ) → is_short xs ≡ true → is_short ys ≡ true → (packed xs == packed ys) ≡ bytes_eq xs ys
+same_number xs ys p q =
+    same_from_decides (packed xs == packed ys) (bytes_eq xs ys)
+    (Decides-like (packed xs == packed ys) (packed_apart xs ys (short_bytes xs p) (short_bytes ys q)) (λ e. ap packed e) (Decides-eqb (packed xs) (packed ys)))
+    (bytes_eq-Decides xs ys)
+
+-- a short name is none of the others
+other_kind : (xs ys : List ℕ) (b c : Bool) → is_short xs ≡ b → is_short ys ≡ c → not b ≡ c → bytes_eq xs ys ≡ false
+other_kind xs ys true c p q e = false_from_ne_true (bytes_eq xs ys) (λ t. let same = ap is_short ((bytes_eq-Decides xs ys).0 t) in cc)
+other_kind xs ys false c p q e = false_from_ne_true (bytes_eq xs ys) (λ t. let same = ap is_short ((bytes_eq-Decides xs ys).0 t) in cc)
+
+is_eq_nat_cmp : (a b : ℕ) → is_eq (nat_cmp a b) ≡ (a == b)
+is_eq_nat_cmp a b = grind (arith, nat_tests)
+
+cond_or : (a b : Bool) → cond a true b ≡ (a || b)
+cond_or true b = refl
+cond_or false b = refl
+
+-- whether a set has a short name
+pub has_short : (names : NameSet) (q : List ℕ) → is_short q ≡ true → has names q ≡ contains nat_cmp names.short (packed q)
+unfolding has
+has_short names q e = ap (λ (b : Bool). cond b (contains nat_cmp names.short (packed q)) (contains_text names.long q)) e
+
+-- and another
+pub has_long : (names : NameSet) (q : List ℕ) → is_short q ≡ false → has names q ≡ contains_text names.long q
+unfolding has
+has_long names q e = ap (λ (b : Bool). cond b (contains nat_cmp names.short (packed q)) (contains_text names.long q)) e
+
+pub has_none : (names : NameSet) → IsEmpty names.short → IsEmpty names.long → (q : List ℕ) → has names q ≡ false
+has_none names short long q = elim (cases_Bool (is_short q)) [
+  | inl here ↦ has_short names q here ∙ rw short refl
+  | inr away ↦ has_long names q away ∙ rw long refl
+]
+
+-- one short name more
+pub has_more_short : (old new : NameSet) (name : List ℕ) → is_short name ≡ true → new.long ≡ old.long → Updates nat_cmp old.short new.short (packed name) true
+    → (q : List ℕ) → has new q ≡ (bytes_eq name q || has old q)
+has_more_short old new name short others updates q = elim (cases_Bool (is_short q)) [
+  | inl here ↦
+      has_short new q here
+      ∙ updates.0 (packed q)
+      ∙ ap (λ (b : Bool). cond b true (contains nat_cmp old.short (packed q))) (is_eq_nat_cmp (packed name) (packed q) ∙ same_number name q short here)
+      ∙ cond_or (bytes_eq name q) (contains nat_cmp old.short (packed q))
+      ∙ ap (λ (b : Bool). bytes_eq name q || b) (sym (has_short old q here))
+  | inr away ↦
+      has_long new q away
+      ∙ ap (λ s. contains_text s q) others
+      ∙ sym (has_long old q away)
+      ∙ ap (λ (b : Bool). b || has old q) (sym (other_kind name q true false short away refl))
+]
+
+-- one longer name more
+pub has_more_long : (old new : NameSet) (name : List ℕ) → is_short name ≡ false → new.short ≡ old.short
+    → UpdatesBy string_cmp (λ k. slice_cmp nat_cmp name (string_bytes k)) old.long new.long true → (q : List ℕ) → has new q ≡ (bytes_eq name q || has old q)
+has_more_long old new name long others updates q = elim (cases_Bool (is_short q)) [
+  | inl here ↦
+      has_short new q here
+      ∙ ap (λ s. contains nat_cmp s (packed q)) others
+      ∙ sym (has_short old q here)
+      ∙ ap (λ (b : Bool). b || has old q) (sym (other_kind name q false true long here refl))
+  | inr away ↦
+      has_long new q away
+      ∙ btree_set_updates_text name old.long new.long true updates q
+      ∙ cond_or (bytes_eq name q) (contains_text old.long q)
+      ∙ ap (λ (b : Bool). bytes_eq name q || b) (sym (has_long old q away))
+]

@@ -1,0 +1,5 @@
+use Rattle.html_tokens.proofs.NameSets.{has_none}
+use Rattle.html_tokens.proofs.name_set.NameSet.new.Goals as goal
+
+pub returns : goal.returns
+returns c = has_none _ c.new.ensures.empty c.new-2.ensures.empty

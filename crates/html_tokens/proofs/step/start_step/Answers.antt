@@ -1,0 +1,27 @@
+use Rattle.std.proofs.Common.{◌≡◌, ◌-◌, ℕ, List, take, drop, map, false, refl, ap, subst, ◌∙◌, IsCharBoundary, arith}
+use Rattle.html_tokens.specs.Characters.{lower}
+use Rattle.html_tokens.specs.States.{Tag, new_tag, after_start, shown}
+use Rattle.html_tokens.specs.States.State.{TagName, BeforeName}
+use Rattle.html_tokens.specs.Tokenizer.{read}
+use Rattle.html_tokens.specs.Input.{input, named_by, with_attributes, ended}
+use Rattle.html_tokens.specs.Scanned.{state_in}
+use Rattle.html_tokens.specs.declared.span.Part.TheVariants as part
+use Rattle.html_tokens.proofs.StepRuns.{tag_found, start_read}
+use Rattle.html_tokens.proofs.step.start_step.Goals as goal
+
+pub returns-in-Some : goal.returns-in-Some
+returns-in-Some c =
+    let rest = c.args.rest.now in
+    let len = c.name_end-name_len.result in
+    let n = c.in-Some.after in
+    let inside_is : c.range_from-inside.result.now ≡ drop 1 rest = c.range_from-inside.ensures.value in
+    let after_is : c.range_from.result.now ≡ drop len (drop 1 rest) = c.range_from.ensures.value ∙ ap (drop len) inside_is in
+    let tag = named_by (new_tag false) (input (take len (drop 1 rest))) in
+    let found = c.in-Some.ensures.reads tag in
+    let named = subst (λ (l : List ℕ). (tag : Tag) → read (TagName tag) 0 (input l) ≡ read (BeforeName (named_by tag (input (take len l)))) 0 (input (drop len l))) inside_is c.name_end-name_len.ensures.reads in
+    let closes = subst (λ (l : List ℕ). read (BeforeName tag) 0 (input l) ≡ ended (with_attributes tag found.0) (input (drop n l))) after_is found.1 in
+    let whole : len - 0 ≡ len = omega arith in
+    let name_is : c.range.result.now ≡ take len (drop 1 rest) = c.range.ensures.value ∙ ap (λ (x : ℕ). take x c.range_from-inside.result.now) whole ∙ ap (take len) inside_is in
+    let mode_is : state_in c.mode_after.result ≡ after_start (map lower (map shown (input (take len (drop 1 rest))))) = c.mode_after.ensures ∙ ap (λ (l : List ℕ). after_start (map lower (map shown (input l)))) name_is in
+    tag_found rest part.StartTag 1 len n c.mode_after.result _ c.utf8.rest c.requires.boundary (subst (λ (l : List ℕ). IsCharBoundary l len) inside_is c.name_end-name_len.ensures.boundary)
+    (subst (λ (l : List ℕ). IsCharBoundary l n) after_is c.in-Some.ensures.boundary) (omega arith) refl (λ given. (c.requires.opens, given)) tt tt tt (start_read rest len n c.mode_after.result found.0 c.requires.reads named closes mode_is)

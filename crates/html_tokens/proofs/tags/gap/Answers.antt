@@ -1,0 +1,25 @@
+use Rattle.std.proofs.Common.{◌≡◌, ℕ, drop, IsCharBoundary, refl, ap, subst, sym, ◌∙◌}
+use Rattle.std.specs.List.{prefix_len}
+use Rattle.html_tokens.specs.States.State.{BeforeName}
+use Rattle.html_tokens.specs.Tokenizer.{read}
+use Rattle.html_tokens.specs.Input.{input}
+use Rattle.html_tokens.specs.Tags.{belongs, BeginsOutside}
+use Rattle.html_tokens.specs.declared.tags.Class.TheVariants as class
+use Rattle.html_tokens.proofs.TagRuns.{small_boundary, prefix_outside, passed}
+use Rattle.html_tokens.proofs.TagAttributes.{is_gap, gap_small, gap_bytes_small, gap_passed}
+use Rattle.html_tokens.proofs.tags.gap.Goals as goal
+
+pub returns-clause-boundary : goal.returns-clause-boundary
+returns-clause-boundary c =
+    let is : c.front.result ≡ prefix_len (belongs class.Gap) c.args.rest.now = c.front.ensures.value ∙ ap (prefix_len (belongs class.Gap)) c.as_bytes.ensures.value in
+    subst (IsCharBoundary c.args.rest.now) (sym is) (small_boundary (belongs class.Gap) gap_bytes_small c.args.rest.now c.utf8.rest)
+
+pub returns-clause-next : goal.returns-clause-next
+returns-clause-next c =
+    let is : c.front.result ≡ prefix_len (belongs class.Gap) c.args.rest.now = c.front.ensures.value ∙ ap (prefix_len (belongs class.Gap)) c.as_bytes.ensures.value in
+    subst (λ (k : ℕ). BeginsOutside (belongs class.Gap) (drop k c.args.rest.now)) (sym is) (prefix_outside (belongs class.Gap) c.args.rest.now)
+
+pub returns-clause-reads : goal.returns-clause-reads
+returns-clause-reads c tag =
+    let is : c.front.result ≡ prefix_len (belongs class.Gap) c.args.rest.now = c.front.ensures.value ∙ ap (prefix_len (belongs class.Gap)) c.as_bytes.ensures.value in
+    passed (BeforeName tag) is_gap (gap_passed tag) refl gap_small c.args.rest.now c.utf8.rest ∙ ap (λ (k : ℕ). read (BeforeName tag) 0 (input (drop k c.args.rest.now))) (sym is)

@@ -1,0 +1,37 @@
+-- The text of a script (13.2.5.4, and 13.2.5.15 to 13.2.5.31).
+use Rattle.std.specs.Prelude.{◌≡◌, ℕ, ◌⊎◌, Bool, true, false, not, ◌||◌, ◌==◌, List, [], ◌∷◌, ◌++◌, take, drop, map, codes}
+use Rattle.std.specs.List.{list_all}
+use Rattle.html_tokens.specs.Characters.{less_than, hyphen}
+use Rattle.html_tokens.specs.States.{State, shown}
+use Rattle.html_tokens.specs.States.Kind.{Script, Escaped}
+use Rattle.html_tokens.specs.States.State.{Raw, DoubleEscaped}
+use Rattle.html_tokens.specs.Tokenizer.{read, chars}
+use Rattle.html_tokens.specs.Input.{input}
+use Rattle.html_tokens.specs.Contents.{closes}
+use Rattle.html_tokens.specs.declared.mode.Content.TheVariants as content
+use Rattle.html_tokens.specs.declared.script.Phase.{Phase}
+use Rattle.html_tokens.specs.declared.script.Phase.TheVariants as phase
+
+abbrev pub script_state : Phase → State
+script_state phase.Plain = Raw Script (codes "script")
+script_state phase.Escaped = Raw Escaped (codes "script")
+script_state phase.DoubleEscaped = DoubleEscaped (codes "script")
+
+-- So many bytes of a script are text, and after them it is read in the second phase.
+abbrev pub Reads : Phase → List ℕ → ℕ → Phase → Type 0
+Reads before text len after = read (script_state before) 0 (input text) ≡ chars (map shown (input (take len text))) ++ read (script_state after) 0 (input (drop len text))
+
+-- The script ends here: in a double escape no end tag ends it.
+abbrev pub ends_script : Phase → List ℕ → Bool
+ends_script phase.Plain text = closes content.Script text
+ends_script phase.Escaped text = closes content.Script text
+ends_script phase.DoubleEscaped text = false
+
+-- nothing, or first what may change the phase
+abbrev pub IsMark : List ℕ → Type 0
+IsMark [] = Unit {0}
+IsMark (b ∷ text) = (b ≡ less_than) ⊎ (b ≡ hyphen)
+
+-- none of the bytes is one of the two
+abbrev pub LacksMarks : List ℕ → Type 0
+LacksMarks bytes = list_all (λ b. not (b == less_than || b == hyphen)) bytes ≡ true

@@ -1,0 +1,145 @@
+//! A scanner that gives the places of tokens first, and a token only where it is asked for.
+ghost use Rattle.std.specs.Prelude.{◌≡◌, ◌≤◌, ◌++◌, [], true, zero, take, IfOk, IfSome, None, MatchOption, chars};
+ghost use Rattle.html_tokens.specs.States.State.{Data as InData};
+ghost use Rattle.html_tokens.specs.Tokenizer.{read};
+ghost use Rattle.html_tokens.specs.Held.{meaning};
+ghost use Rattle.html_tokens.specs.Input.{input, read_as as what_is_read};
+ghost use Rattle.html_tokens.specs.Scanned.{left, span_tokens, IsSpan, GivesToken, opens_start, opens_end};
+ghost use Rattle.html_tokens.specs.Stepping.{RunEnds, RunBegins, RunLeaves};
+ghost use Rattle.html_tokens.specs.declared.mode.Mode.TheVariants.{Data};
+
+use crate::attribute_list::{attributes, tag_name};
+use crate::mode::Mode;
+use crate::span::{Part, Span};
+use crate::step::step_at;
+use crate::stretch::{ReadAs, read_stretch};
+use crate::tags::{name_end, tag_end};
+use crate::{Memory, Token};
+use mail_io::Text;
+use std::alloc::Global;
+use std::marker::Model;
+
+/// Reads a text token by token, seen as the text, the place up to which it is read, and what the last start tag has left.
+///
+/// CR LF and CR are read as LF.
+#[derive(Drop)]
+pub struct Scanner<'t> {
+    text: &'t str,
+    at: usize,
+    mode: Mode,
+}
+
+impl<'t> Model for Scanner<'t> {
+    ghost use Rattle.std.specs.Prelude.{IsCharBoundary};
+    ghost use Rattle.html_tokens.specs.Scanned.{Place};
+
+    ghost Value = { Place };
+
+    ghost view = { λ s. record { text = s.text.now; at = s.at; mode = s.mode } };
+
+    ghost invariant = { λ s. IsCharBoundary s.text.now s.at };
+}
+
+impl<'t> Scanner<'t> {
+    /// Begins before the text's first token.
+    pub fn new(text: &'t str) -> Self
+        ensures text { result.text ≡ text.now }
+        ensures at { result.at ≡ 0 }
+        ensures mode { result.mode ≡ Data }
+    {
+        Scanner {
+            text,
+            at: 0,
+            mode: Mode::Data,
+        }
+    }
+
+    /// The place of the next token, and None exactly where no token is left. A run of characters is one span.
+    ///
+    /// It takes no memory.
+    pub fn next(&mut self) -> Option<Span>
+        ensures text { self.new.text ≡ self.old.text }
+        ensures reads { MatchOption result (left self.old ≡ []) (λ span. left self.old ≡ span_tokens self.old.text span ++ left self.new) }
+        ensures span { IfSome result (λ span. IsSpan self.old.text span) }
+        ensures before { IfSome result (λ span. self.old.at ≤ span.start) }
+        ensures after { IfSome result (λ span. span.end ≤ self.new.at) }
+        ensures run_ends { IfSome result (λ span. RunEnds self.old.text span.part span.end) }
+        ensures run_begins { IfSome result (λ span. RunBegins self.old.text self.old.mode span.part span.start) }
+        ensures run_leaves { IfSome result (λ span. RunLeaves span.part self.new.mode) }
+        ensures none { result ≡ None → self.new ≡ self.old }
+    {
+        match step_at(self.text, self.at, self.mode) {
+            None => None,
+            Some(step) => {
+                self.at = step.at;
+                self.mode = step.mode;
+                Some(step.span)
+            }
+        }
+    }
+
+    /// The token of a span, which this scanner has given.
+    pub fn token(&self, alloc: Global, span: &Span) -> Result<Token, Memory>
+        requires { IsSpan self.now.text span.now }
+        ensures { IfOk result (λ token. meaning token ≡ span_tokens self.now.text span.now) }
+    {
+        token_at(alloc, self.text, span)
+    }
+}
+
+/// An attribute usually takes at least so many bytes.
+const USUAL_ATTRIBUTE: usize = 12;
+
+/// What a stretch of text is read as.
+fn stretch_token(alloc: Global, read_as: ReadAs, stretch: &str) -> Result<Text, Memory>
+    ensures { IfOk result (λ text. chars text ≡ what_is_read read_as (input stretch.now)) }
+{
+    Ok(Text::from_string(read_stretch(alloc, read_as, stretch)?))
+}
+
+/// The start tag that a text begins with, of so many bytes.
+fn start_token(alloc: Global, rest: &str, len: usize) -> Result<Token, Memory>
+    requires opens { opens_start rest.now ≡ true }
+    requires gives { GivesToken rest.now }
+    ensures { IfOk result (λ token. meaning token ≡ take 1 (read InData 0 (input rest.now))) }
+{
+    let inside = &rest[1..];
+    let name_len = name_end(inside);
+    let name = tag_name(alloc, &inside[..name_len])?;
+    let attributes = attributes(alloc, &inside[name_len..], len / USUAL_ATTRIBUTE)?;
+    Ok(Token::Start { name, attributes })
+}
+
+/// The end tag that a text begins with.
+fn end_token(alloc: Global, rest: &str) -> Result<Token, Memory>
+    requires opens { opens_end rest.now ≡ true }
+    requires gives { GivesToken rest.now }
+    ensures { IfOk result (λ token. meaning token ≡ take 1 (read InData 0 (input rest.now))) }
+{
+    let inside = &rest[2..];
+    let len = name_end(inside);
+    let name = tag_name(alloc, &inside[..len])?;
+    match tag_end(&inside[len..]) {
+        Some(_) => Ok(Token::End { name }),
+        None => unreachable!(),
+    }
+}
+
+fn token_at(alloc: Global, text: &str, span: &Span) -> Result<Token, Memory>
+    requires { IsSpan text.now span.now }
+    ensures { IfOk result (λ token. meaning token ≡ span_tokens text.now span.now) }
+{
+    match span.part {
+        Part::Run(read_as) => {
+            let run = stretch_token(alloc, read_as, &text[span.start..span.end])?;
+            Ok(Token::Chars(run))
+        }
+        Part::StartTag => start_token(alloc, &text[span.start..], span.end - span.start),
+        Part::EndTag => end_token(alloc, &text[span.start..]),
+        Part::Comment(from, to) => {
+            let comment = stretch_token(alloc, ReadAs::Raw, &text[from..to])?;
+            Ok(Token::Comment(comment))
+        }
+        Part::Doctype => Ok(Token::Doctype),
+    }
+}

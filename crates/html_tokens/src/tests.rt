@@ -1,0 +1,86 @@
+use crate::*;
+use std::alloc::Global;
+use std::test::Fail;
+
+// Tokens as a text: `<name|attribute=value>`, `</name>`, `{characters}`, `(comment)` and `!`.
+fn written(alloc: Global, tokens: &[Token]) -> Result<String, Memory> {
+    let mut out = String::new(alloc);
+    for token in tokens {
+        push_written(alloc, &mut out, token)?;
+    }
+    Ok(out)
+}
+
+fn push_written(alloc: Global, out: &mut String, token: &Token) -> Result<(), Memory> {
+    match token {
+        Token::Start { name, attributes } => push_start(out, name.as_str(), attributes),
+        Token::End { name } => out.push_str(format!(in alloc; "</{}>", name.as_str())?.as_str()),
+        Token::Chars(text) => out.push_str(format!(in alloc; "{{{}}}", text.as_str())?.as_str()),
+        Token::Comment(text) => out.push_str(format!(in alloc; "({})", text.as_str())?.as_str()),
+        Token::Doctype => out.push_str("!"),
+    }
+}
+
+fn push_start(out: &mut String, name: &str, attributes: &Attributes) -> Result<(), Memory> {
+    out.push_str("<")?;
+    out.push_str(name)?;
+    for i in 0..attributes.len() {
+        out.push_str("|")?;
+        out.push_str(attributes.name(i))?;
+        out.push_str("=")?;
+        out.push_str(attributes.value(i))?;
+    }
+    out.push_str(">")
+}
+
+// A text and its tokens.
+const ROWS: [(&str, &str); 12] = [
+    ("<title>a<b></title>c", "<title>{a<b>}</title>{c}"),
+    (
+        "<script><!--<script></script>x--></script>y",
+        "<script>{<!--<script></script>x-->}</script>{y}",
+    ),
+    ("a</>b</ c>d<?e>", "{a}{b}( c){d}(?e)"),
+    ("x<b y", "{x}"),
+    (
+        "<scr<script>ipt>alert(1)</scr</script>ipt>",
+        "<scr<script>{ipt>alert(1)}</scr<>{ipt>}",
+    ),
+    (
+        "<a href=\"jav&#9;ascript:1\" HREF=x>t</a>",
+        "<a|href=jav\tascript:1>{t}</a>",
+    ),
+    ("<!--><b>x</b><!-- --!><i>y", "()<b>{x}</b>( )<i>{y}"),
+    (
+        "<b title='\"&gt;&notanentity; &copy=1'>&#13;&#0;&#128;&notit;</b>",
+        "<b|title=\">&notanentity; &copy=1>{\r\u{FFFD}\u{20AC}\u{AC}it;}</b>",
+    ),
+    ("<!DOCTYPE html>\r\na\rb<c d='\r\n'>", "!{\na\nb}<c|d=\n>"),
+    ("<style>&lt;</STYLE >&lt;", "<style>{&lt;}</style>{<}"),
+    ("<plaintext>a</plaintext>", "<plaintext>{a</plaintext>}"),
+    ("a < b<", "{a < b<}"),
+];
+
+#[test]
+fn texts_have_these_tokens(rt: HostRuntime) -> Result<(), Fail> {
+    let alloc = rt.alloc();
+    for (text, tokens) in ROWS {
+        assert_eq!(rt;
+            written(alloc, &read_tokens(alloc, text)?)?.as_str(),
+            tokens
+        );
+    }
+    Ok(())
+}
+
+#[test]
+fn a_scanner_gives_spans_and_reads_them(rt: HostRuntime) -> Result<(), Fail> {
+    let mut scanner = Scanner::new("a<b>");
+    let run = scanner.next();
+    let tag = scanner.next();
+    assert!(rt; run.is_some());
+    assert!(rt; tag.is_some());
+    assert!(rt; scanner.next().is_none());
+    assert!(rt; scanner.next().is_none());
+    Ok(())
+}

@@ -1,0 +1,19 @@
+//! All the tokens of a text.
+ghost use Rattle.std.specs.Prelude.{◌≡◌, IfOk, chars};
+ghost use Rattle.html_tokens.specs.Held.{meanings};
+ghost use Rattle.html_tokens.specs.Tokenizer.{tokens};
+
+use crate::{Memory, Scanner, Token};
+use std::alloc::Global;
+
+/// The tokens of a text, one after another: what the spans of a [`Scanner`] are read as are the definition's tokens.
+pub fn read_tokens(alloc: Global, text: &str) -> Result<Vec<Token>, Memory>
+    ensures { IfOk result (λ list. meanings list.items ≡ tokens (chars text.now)) }
+{
+    let mut scanner = Scanner::new(text);
+    let mut list = Vec::new(alloc);
+    while let Some(span) = scanner.next() {
+        list.push(scanner.token(alloc, &span)?)?;
+    }
+    Ok(list)
+}
