@@ -76,7 +76,11 @@ pub fn attributes(alloc: Global, rest: &str, expected: usize) -> Result<Attribut
         keep(alloc, &mut pairs, &rest[at..], place)?;
         at += place.end;
     }
-    more_attributes(alloc, pairs, rest, at)
+    if begins_attribute(&rest[at..]) {
+        more_attributes(alloc, pairs, rest, at)
+    } else {
+        Ok(Attributes::from_pairs(pairs))
+    }
 }
 
 /// The attributes of a tag as far as it is read, the first of each name, and the set of their names.

@@ -22,14 +22,16 @@ pub struct NameSet {
     long: BTreeSet<String>,
 }
 
-/// The number of a short name: a one, and the bytes as digits after it.
+/// The number of a short name: a one, and the bytes as digits after it, the greatest byte as the least.
+///
+/// A node of the set is searched from its least number on. So names that count up, as those of a program do, are found first.
 fn packed(name: &[u8]) -> u128
     requires { length name.now ≤ 15 }
     ensures { result ≡ number_of name.now }
 {
     let mut number: u128 = 1;
     for byte in name {
-        number = number * 256 + u128::from(*byte);
+        number = number * 256 + u128::from(255 - *byte);
     }
     number
 }
