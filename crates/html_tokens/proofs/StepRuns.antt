@@ -11,7 +11,7 @@ use Rattle.html_tokens.specs.States.State.{Data, TagName, BeforeName, Plaintext}
 use Rattle.html_tokens.specs.Tokenizer.{read, step, again, look, at_end, chars}
 use Rattle.html_tokens.specs.Input.{input, named_by, with_attributes, ended, read_as, decoded}
 use Rattle.html_tokens.specs.Scanned.{state_in, part_tokens, between, GivesToken, Holds, opens_markup, opens_start, opens_end, part_bound, part_moved}
-use Rattle.html_tokens.specs.Stepping.{RunEnds, NoMarkup, RunBegins, RunLeaves, RunsStandApart, tokens_in, StepsTo, MovesTo, Moves, run_step}
+use Rattle.html_tokens.specs.Stepping.{RunEnds, NoMarkup, Passes, RunBegins, RunLeaves, RunsStandApart, tokens_in, StepsTo, MovesTo, Moves, run_step}
 use Rattle.html_tokens.specs.declared.mode.Content.{Content}
 use Rattle.html_tokens.specs.declared.mode.Mode.{Mode}
 use Rattle.html_tokens.specs.declared.mode.Mode.TheVariants as mode
@@ -51,7 +51,8 @@ tag_found rest p k len n m t utf8 cut name_cut tag_cut some gives holds ends beg
       reads = first_of all t more reads ∙ ap (λ (l : List Token). l ++ more) (sym gives) ∙ ap (λ (l : List ℕ). part_tokens rest 0 (k + len + n) p ++ tokens_in m l) (tag_rest rest k len n);
       span = record { some = omega (arith, some); begins = IsCharBoundary-start rest utf8; ends = past; holds = holds (t, more, reads) };
       at = past;
-      after = omega arith;
+      start = refl;
+      after = refl;
       run_ends = ends;
       run_begins = begins;
       run_leaves = leaves;
@@ -89,7 +90,8 @@ comment_found rest k len end utf8 cut some len_cut end_cut ordered reads =
           ∙ ap (λ (l : List ℕ). Comment (map shown (input (between k (k + len) rest))) ∷ read Data 0 (input l)) (drop-drop end k rest);
       span = record { some = omega (arith, some); begins = IsCharBoundary-start rest utf8; ends = past; holds = (omega arith, cut, IsCharBoundary-from_rest rest k len cut.0 len_cut) };
       at = past;
-      after = omega arith;
+      start = refl;
+      after = refl;
       run_ends = tt;
       run_begins = tt;
       run_leaves = tt;
@@ -104,7 +106,8 @@ doctype_found rest end utf8 cut end_cut reads =
       reads = reads ∙ ap (λ (l : List ℕ). Doctype ∷ read Data 0 (input l)) (drop-drop end 9 rest);
       span = record { some = omega arith; begins = IsCharBoundary-start rest utf8; ends = past; holds = tt };
       at = past;
-      after = omega arith;
+      start = refl;
+      after = refl;
       run_ends = tt;
       run_begins = tt;
       run_leaves = tt;
@@ -121,7 +124,8 @@ run_found r m rest end utf8 some cut reads ends begins =
       reads = reads ∙ ap (λ (n : ℕ). chars (read_as r (input (take n rest))) ++ read Data 0 (input (drop end rest))) (sym whole);
       span = record { some = some; begins = IsCharBoundary-start rest utf8; ends = cut; holds = tt };
       at = cut;
-      after = omega arith;
+      start = refl;
+      after = refl;
       run_ends = ends;
       run_begins = begins;
       run_leaves = refl;
@@ -203,6 +207,11 @@ run_leaves_moved by part.EndTag m h = tt
 run_leaves_moved by (part.Comment from to) m h = tt
 run_leaves_moved by part.Doctype m h = tt
 
+passes_here : (text : List ℕ) (place start : ℕ) (m : Mode) → start ≡ place → Passes text place m start
+passes_here text place start mode.Data e = ap (λ (n : ℕ). tokens_in mode.Data (drop n text)) e
+passes_here text place start (mode.Inside c) e = tt
+passes_here text place start mode.Plaintext e = tt
+
 pub moved_to : (text : List ℕ) (at : ℕ) (m : Mode) (s : Step) (moved : Span) → IsCharBoundary text at → StepsTo (drop at text) m s
     → moved ≡ record { start = at + s.span.start; end = at + s.span.end; part = part_moved at s.span.part }
     → MovesTo text at m (record { span = moved; at = at + s.at; mode = s.mode })
@@ -219,7 +228,8 @@ moved_to text at m s moved cut h e = subst (λ (x : Span). MovesTo text at m (re
   };
   at = IsCharBoundary-from_rest text at s.at cut.0 h.at;
   before = omega arith;
-  after = omega (arith, h.after);
+  passes = passes_here text at (at + s.span.start) m (omega (arith, h.start));
+  after = ap (λ (n : ℕ). at + n) h.after;
   run_ends = run_ends_moved text at s.span.end s.span.part h.run_ends;
   run_begins = run_begins_moved text at s.span.start m s.span.part h.run_begins;
   run_leaves = run_leaves_moved at s.span.part s.mode h.run_leaves;
@@ -248,13 +258,15 @@ begins_inside text content part.Doctype start h = tt
 
 -- the same step from an earlier place, or in another mode, where the tokens are the same
 pub moves_from : (text : List ℕ) (early late : ℕ) (m n : Mode) (s : Option Step) → early ≤ late → tokens_in m (drop early text) ≡ tokens_in n (drop late text)
-    → ((p : Part) (start : ℕ) → RunBegins text n p start → RunBegins text m p start) → Moves text late n s → Moves text early m s
-moves_from text early late m n None le same begins h = same ∙ h
-moves_from text early late m n (Some s) le same begins h = record {
+    → ((p : Part) (start : ℕ) → RunBegins text n p start → RunBegins text m p start) → ((start : ℕ) → Passes text late n start → Passes text early m start)
+    → Moves text late n s → Moves text early m s
+moves_from text early late m n None le same begins passes h = same ∙ h
+moves_from text early late m n (Some s) le same begins passes h = record {
   reads = same ∙ h.reads;
   span = h.span;
   at = h.at;
   before = omega (arith, le, h.before);
+  passes = passes s.span.start h.passes;
   after = h.after;
   run_ends = h.run_ends;
   run_begins = begins s.span.part s.span.start h.run_begins;

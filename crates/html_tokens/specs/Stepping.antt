@@ -45,12 +45,19 @@ RunLeaves part.EndTag after = Unit {0}
 RunLeaves (part.Comment from to) after = Unit {0}
 RunLeaves part.Doctype after = Unit {0}
 
--- The step goes to the first token of the text, and past it.
+-- Between tags, what is passed over before a span gives nothing.
+abbrev pub Passes : List ℕ → ℕ → Mode → ℕ → Type 0
+Passes text place mode.Data start = tokens_in mode.Data (drop start text) ≡ tokens_in mode.Data (drop place text)
+Passes text place (mode.Inside c) start = Unit {0}
+Passes text place mode.Plaintext start = Unit {0}
+
+-- The step goes to the first token of the text, and right behind it.
 pub record StepsTo (text : List ℕ) (mode : Mode) (step : Step) : Type 0 where
   pub reads : tokens_in mode text ≡ span_tokens text step.span ++ tokens_in step.mode (drop step.at text)
   pub span : IsSpan text step.span
   pub at : IsCharBoundary text step.at
-  pub after : step.span.end ≤ step.at
+  pub start : step.span.start ≡ 0
+  pub after : step.span.end ≡ step.at
   pub run_ends : RunEnds text step.span.part step.span.end
   pub run_begins : RunBegins text mode step.span.part step.span.start
   pub run_leaves : RunLeaves step.span.part step.mode
@@ -66,13 +73,14 @@ run_step read_as end = record { span = record { start = 0; end = end; part = par
 
 -- ---- in a text from a place on
 
--- The step goes to the first token from this place on, and past it.
+-- The step goes to the first token from this place on, and right behind it.
 pub record MovesTo (text : List ℕ) (place : ℕ) (mode : Mode) (step : Step) : Type 0 where
   pub reads : tokens_in mode (drop place text) ≡ span_tokens text step.span ++ tokens_in step.mode (drop step.at text)
   pub span : IsSpan text step.span
   pub at : IsCharBoundary text step.at
   pub before : place ≤ step.span.start
-  pub after : step.span.end ≤ step.at
+  pub passes : Passes text place mode step.span.start
+  pub after : step.span.end ≡ step.at
   pub run_ends : RunEnds text step.span.part step.span.end
   pub run_begins : RunBegins text mode step.span.part step.span.start
   pub run_leaves : RunLeaves step.span.part step.mode

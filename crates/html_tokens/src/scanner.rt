@@ -5,7 +5,7 @@ ghost use Rattle.html_tokens.specs.Tokenizer.{read};
 ghost use Rattle.html_tokens.specs.Held.{meaning};
 ghost use Rattle.html_tokens.specs.Input.{input, read_as as what_is_read};
 ghost use Rattle.html_tokens.specs.Scanned.{left, span_tokens, IsSpan, GivesToken, opens_start, opens_end};
-ghost use Rattle.html_tokens.specs.Stepping.{RunEnds, RunBegins, RunLeaves};
+ghost use Rattle.html_tokens.specs.Stepping.{Passes, RunEnds, RunBegins, RunLeaves};
 ghost use Rattle.html_tokens.specs.declared.mode.Mode.TheVariants.{Data};
 
 use crate::attribute_list::{attributes, tag_name};
@@ -62,7 +62,8 @@ impl<'t> Scanner<'t> {
         ensures reads { MatchOption result (left self.old ≡ []) (λ span. left self.old ≡ span_tokens self.old.text span ++ left self.new) }
         ensures span { IfSome result (λ span. IsSpan self.old.text span) }
         ensures before { IfSome result (λ span. self.old.at ≤ span.start) }
-        ensures after { IfSome result (λ span. span.end ≤ self.new.at) }
+        ensures passes { IfSome result (λ span. Passes self.old.text self.old.at self.old.mode span.start) }
+        ensures after { IfSome result (λ span. span.end ≡ self.new.at) }
         ensures run_ends { IfSome result (λ span. RunEnds self.old.text span.part span.end) }
         ensures run_begins { IfSome result (λ span. RunBegins self.old.text self.old.mode span.part span.start) }
         ensures run_leaves { IfSome result (λ span. RunLeaves span.part self.new.mode) }

@@ -16,4 +16,4 @@ returns-else-end-gt0 c =
     let none : c.content_end-end.result ≡ 0 = omega (arith, c.if-end-gt0.false) in
     let here = subst (λ (n : ℕ). read (Raw (kind_of content) (name_of content)) 0 (input rest) ≡ chars (read_as (text_in content) (input (take n rest))) ++ read Data 0 (input (drop n rest))) none
     (subst (λ (l : List ℕ). read (Raw (kind_of content) (name_of content)) 0 (input l) ≡ chars (read_as (text_in content) (input (take c.content_end-end.result l))) ++ read Data 0 (input (drop c.content_end-end.result l))) is c.content_end-end.ensures.reads) in
-    moves_from c.args.text.now c.args.at c.args.at (mode.Inside content) mode.Data c.data_step.result (omega arith) (here ∙ nothing_held (text_in content) (read Data 0 (input rest))) (begins_inside c.args.text.now content) c.data_step.ensures
+    moves_from c.args.text.now c.args.at c.args.at (mode.Inside content) mode.Data c.data_step.result (omega arith) (here ∙ nothing_held (text_in content) (read Data 0 (input rest))) (begins_inside c.args.text.now content) (λ _ _. tt) c.data_step.ensures
