@@ -1,13 +1,15 @@
 #!/usr/bin/env python3
-"""Times of the scanner on a newsletter of 1 MB and on 26 MB of hostile text, beside html5lib's tokenizer and grep -c '<' in the same run.
+"""Times of the scanner on a newsletter of 1 MB and on hostile texts of 8 to 35 MB, beside html5lib's tokenizer and `grep -c '<'`.
 
-Build the program first, by `rt run < stdin` in crates/tokens_bench. Then run this file, from anywhere, with a python3 that has
-html5lib (a package of most systems; without it that figure is left out), and with the number of times that each is measured (5 by
-default). Each figure is the least of those times, in nanoseconds for each byte: of the spans alone, and with the token of each. It
-ends with status 1 where the newsletter is read less than 60 times as fast as by html5lib, or a hostile shape takes more than 5
-times the newsletter's time for each byte.
+Build the program first, by `rt run < stdin` in crates/tokens_bench. Then run this file, from anywhere, and give it the number of times
+that each text is measured (3 by default). html5lib is a package of most systems; without it that figure is left out. Each figure is
+the least of those times, in nanoseconds for each byte: of the spans alone, and with the token of each. `growth` is how much longer a
+text takes than one of a tenth of its size, which fits a processor's cache. It ends with status 1 where the newsletter is read less
+than 60 times as fast as by html5lib, where a hostile text takes more than 5 times the newsletter's time for each byte, or where one
+that takes more than the newsletter's takes more than 20 times as long at ten times the size.
 """
 import os
+import random
 import subprocess
 import sys
 import tempfile
@@ -16,9 +18,13 @@ import time
 try:
     from html5lib._tokenizer import HTMLTokenizer
 except ImportError:
+    SYSTEM = "/usr/bin/python3"
+    if os.path.exists(SYSTEM) and os.path.realpath(sys.executable) != os.path.realpath(SYSTEM):
+        os.execv(SYSTEM, [SYSTEM, *sys.argv])
     HTMLTokenizer = None
 
 LARGE = 26_000_000
+MANY = 4_000_000
 HERE = os.path.dirname(os.path.abspath(__file__))
 PROGRAM = os.path.join(HERE, "..", "crates", "tokens_bench", "out", "tokens_bench")
 
@@ -40,87 +46,122 @@ def newsletter(size=1_000_000):
     return "".join(rows + ["</table></body></html>\r\n"]).encode()
 
 
-def names(count=4_000_000):
-    """One tag with so many attributes of different names."""
-    return b"<a " + b" ".join(b"a%d" % number for number in range(count)) + b">"
+def repeated(piece, before=b"", after=b""):
+    """A text of so many bytes that begins like this and goes on with the piece again and again."""
+    return lambda size: (before + piece * (size // len(piece) + 1))[:size] + after
 
 
-def cut(piece, before=b""):
-    return (before + piece * (LARGE // len(piece) + 1))[:LARGE]
+def attributes(name_of, order=lambda numbers: numbers):
+    """One tag with so many attributes."""
+    return lambda count: b"<a " + b" ".join(name_of(number) for number in order(list(range(count)))) + b">"
 
 
-def shapes():
-    yield "<", cut(b"<")
-    yield "&", cut(b"&")
-    yield "&#", cut(b"&#")
-    yield "&a", cut(b"&a")
-    yield "&ampersand", cut(b"&notit;")
-    yield "<a ", cut(b"<a ")
-    yield "<!--", cut(b"<!--")
-    yield "<!-- and -", cut(b"-", b"<!--")
-    yield "<!-- and --!", cut(b"--!", b"<!--")
-    yield "</script in a script", cut(b"</script", b"<script>")
-    yield "<script><!--<script", cut(b"<script><!--<script")
-    yield "<!-- in a script", cut(b"<!-->", b"<script>")
-    yield "</title in a title", cut(b"</title", b"<title>")
-    yield "one attribute value", b'<a b="' + b"x" * LARGE + b'">'
-    yield "& in a value", cut(b"&", b'<a b="') + b'">'
-    yield "4,000,000 attributes of one name", b"<a " + b"a " * 4_000_000 + b">"
-    yield "4,000,000 attributes of different names", names()
-    yield "CR", cut(b"\r")
-    yield "U+0000", cut(b"\0")
-    yield "</>", cut(b"</>")
-    yield "<b>", cut(b"<b>")
-    yield "text", cut(b"the quick brown fox jumps over the lazy dog ")
+def counted(number):
+    return b"a%d" % number
 
 
-def ours(work, path, size, times):
-    with open(path, "rb") as source:
-        done = subprocess.run([PROGRAM, work, str(times)], stdin=source, capture_output=True, check=True)
-    return min(int(line) for line in done.stderr.split()) * 1000 / size, done.stdout.decode().strip()
+def falling(numbers):
+    return numbers[::-1]
 
 
-def grep_time(path, size, times):
-    best = float("inf")
-    for _ in range(times):
+def shuffled(numbers):
+    random.Random(1).shuffle(numbers)
+    return numbers
+
+
+# a name, what makes the text of a size, and the size
+SHAPES = [
+    ("text", repeated(b"the quick brown fox jumps over the lazy dog "), LARGE),
+    ("<", repeated(b"<"), LARGE),
+    ("&", repeated(b"&"), LARGE),
+    ("&#", repeated(b"&#"), LARGE),
+    ("&a", repeated(b"&a"), LARGE),
+    ("&notit;", repeated(b"&notit;"), LARGE),
+    ("<a ", repeated(b"<a "), LARGE),
+    ("<b>", repeated(b"<b>"), LARGE),
+    ("</>", repeated(b"</>"), LARGE),
+    ("<!--", repeated(b"<!--"), LARGE),
+    ("- after <!--", repeated(b"-", b"<!--"), LARGE),
+    ("--! after <!--", repeated(b"--!", b"<!--"), LARGE),
+    ("</script in a script", repeated(b"</script", b"<script>"), LARGE),
+    ("<script><!--<script", repeated(b"<script><!--<script"), LARGE),
+    ("<!--> in a script", repeated(b"<!-->", b"<script>"), LARGE),
+    ("</title in a title", repeated(b"</title", b"<title>"), LARGE),
+    ("one attribute value", repeated(b"x", b'<a b="', b'">'), LARGE),
+    ("& in a value", repeated(b"&", b'<a b="', b'">'), LARGE),
+    ("CR", repeated(b"\r"), LARGE),
+    ("U+0000", repeated(b"\0"), LARGE),
+    ("attributes of one name", attributes(lambda number: b"a"), MANY),
+    ("attributes of many names, rising", attributes(counted), MANY),
+    ("attributes of many names, falling", attributes(counted, falling), MANY),
+    ("attributes of many names, shuffled", attributes(counted, shuffled), MANY),
+]
+
+
+def seconds_of(work, path, times, runs):
+    """The least of the times that the program takes, and what it counts. A run may meet a busy processor, so there are some."""
+    least = float("inf")
+    for _ in range(runs):
+        with open(path, "rb") as source:
+            done = subprocess.run([PROGRAM, work, str(times)], stdin=source, capture_output=True, check=True)
+        least = min(least, *(int(line) for line in done.stderr.split()))
+    return least / 1e6, done.stdout.decode().strip()
+
+
+def measured(data, times, runs=2):
+    """For spans and for tokens the seconds and the count; and the seconds that grep takes."""
+    with tempfile.NamedTemporaryFile() as file:
+        file.write(data)
+        file.flush()
+        ours = [seconds_of(work, file.name, times, runs) for work in ("spans", "tokens")]
         start = time.perf_counter()
-        subprocess.run(["grep", "-c", "<", path], stdout=subprocess.DEVNULL, check=False)
-        best = min(best, time.perf_counter() - start)
-    return best * 1e9 / size
+        subprocess.run(["grep", "-c", "<", file.name], stdout=subprocess.DEVNULL, check=False)
+        return ours, time.perf_counter() - start
 
 
-def html5lib_time(data):
+def html5lib_seconds(text):
     start = time.perf_counter()
-    for _ in HTMLTokenizer(data.decode()):
+    for _ in HTMLTokenizer(text):
         pass
-    return (time.perf_counter() - start) * 1e9 / len(data)
+    return time.perf_counter() - start
+
+
+def measure_newsletter(times, missed):
+    """Prints the newsletter's figures. The answer is its nanoseconds for each byte."""
+    data = newsletter()
+    ((spans, _), (tokens, count)), grep = measured(data, 30, times)
+    nanoseconds = 1e9 / len(data)
+    print(f"newsletter of 1 MB, {count} tokens: spans {spans * nanoseconds:.2f}, tokens {tokens * nanoseconds:.2f}, grep {grep * nanoseconds:.2f}")
+    if HTMLTokenizer:
+        theirs = min(html5lib_seconds(data.decode()) for _ in range(2 * times))
+        print(f"html5lib {theirs * nanoseconds:.0f}: {theirs / tokens:.1f} times (60 are wanted)")
+        if theirs < 60 * tokens:
+            missed.append("newsletter: less than 60 times html5lib's speed")
+    return tokens * nanoseconds
+
+
+def measure_shape(name, make, size, base, times, missed):
+    data, tenth = make(size), make(size // 10)
+    ((spans, _), (tokens, count)), grep = measured(data, times)
+    growth = tokens / measured(tenth, times)[0][1][0]
+    nanoseconds = 1e9 / len(data)
+    more = tokens * nanoseconds / base
+    print(
+        f"{name:36} spans {spans * nanoseconds:6.2f}  tokens {tokens * nanoseconds:6.2f}  {more:5.2f} times the newsletter"
+        f"  growth {growth:5.1f}  grep {grep * nanoseconds:5.2f}  ({count} tokens of {len(data):,} bytes)"
+    )
+    if more > 5:
+        missed.append(f"{name}: more than 5 times the newsletter's time")
+    if more > 1 and growth > 20:
+        missed.append(f"{name}: ten times the size takes more than 20 times as long")
 
 
 def main():
-    times = int(sys.argv[1]) if len(sys.argv) > 1 else 5
+    times = int(sys.argv[1]) if len(sys.argv) > 1 else 3
     missed = []
-    with tempfile.TemporaryDirectory() as folder:
-        path = os.path.join(folder, "text")
-
-        def measure(data):
-            with open(path, "wb") as file:
-                file.write(data)
-            return [ours(work, path, len(data), times) for work in ("spans", "tokens")]
-
-        data = newsletter()
-        spans, tokens = measure(data)
-        base = tokens[0]
-        print(f"newsletter of 1 MB: spans {spans[0]:.2f}, tokens {base:.2f} (spans and their weight: {tokens[1]}), grep {grep_time(path, len(data), times):.2f}")
-        if HTMLTokenizer:
-            theirs = min(html5lib_time(data) for _ in range(2))
-            print(f"html5lib {theirs:.0f}: {theirs / base:.0f} times (60 are wanted)")
-            if theirs < 60 * base:
-                missed.append("newsletter: less than 60 times html5lib's speed")
-        for name, data in shapes():
-            spans, tokens = measure(data)
-            print(f"{name:42} spans {spans[0]:6.2f}  tokens {tokens[0]:6.2f}  {tokens[0] / base:5.2f} times the newsletter  ({tokens[1]})")
-            if tokens[0] > 5 * base:
-                missed.append(f"{name}: more than 5 times the newsletter's time")
+    base = measure_newsletter(times, missed)
+    for name, make, size in SHAPES:
+        measure_shape(name, make, size, base, times, missed)
     for line in missed:
         print("MISSED", line)
     sys.exit(1 if missed else 0)

@@ -39,5 +39,6 @@ pub mod Wholes
 pub mod FirstLetters
 pub mod FoundNames
 pub mod PackedNames
+pub mod RisingNumbers
 pub mod NameSets
 pub mod HeldNames

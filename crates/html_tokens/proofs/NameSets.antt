@@ -1,17 +1,18 @@
 -- A set of names: whether it has a name, and after one more.
 use Rattle.std.proofs.Common.{◌≡◌, ℕ, suc, ◌<◌, ◌≤◌, Bool, true, false, not, ◌||◌, ◌==◌, nat_lt, nat_le, cond, List, [], ◌∷◌, length, get_or, refl, sym, ap, ◌∙◌, arith, inl, inr}
 use Rattle.std.proofs.lemmas.Bool.{cases_Bool, and_from, and_parts, lt-ltb, ltb-true, le-leb, leb-true, false_from_ne_true}
-use Rattle.std.proofs.lemmas.Bool.Decides.{Decides-eqb, Decides-like, same_from_decides, nat_tests}
+use Rattle.std.proofs.lemmas.Bool.Decides.{Decides-eqb, Decides-like, same_from_decides}
 use Rattle.std.proofs.lemmas.Slice.Eq.{bytes_eq-Decides}
 use Rattle.std.proofs.lemmas.Map.Text.{btree_set_updates_text}
 use Rattle.std.specs.List.{list_all}
-use Rattle.std.specs.Ordering.{nat_cmp, is_eq}
+use Rattle.std.specs.Ordering.{nat_cmp}
 use Rattle.std.specs.Cmp.Lexicographic.{slice_cmp}
 use Rattle.std.specs.Str.{bytes_eq}
 use Rattle.std.specs.String.{string_cmp, string_bytes}
-use Rattle.std.specs.BTreeSet.{Updates, UpdatesBy, IsEmpty, contains, contains_text}
+use Rattle.std.specs.BTreeSet.{UpdatesBy, IsEmpty, contains_text}
 use Rattle.html_tokens.specs.declared.name_set.NameSet.{NameSet}
-use Rattle.html_tokens.specs.NameSets.{packed, is_short, has}
+use Rattle.html_tokens.specs.NameSets.{has, has_number}
+use Rattle.html_tokens.specs.PackedNames.{packed, is_short}
 use Rattle.html_tokens.proofs.PackedNames.{AreBytes, packed_apart}
 
 bytes_pass : (xs : List ℕ) → ((i : ℕ) → get_or xs i 0 < 256) → list_all (λ b. nat_lt b 256) xs ≡ true
@@ -49,38 +50,34 @@ other_kind : (xs ys : List ℕ) (b c : Bool) → is_short xs ≡ b → is_short 
 other_kind xs ys true c p q e = false_from_ne_true (bytes_eq xs ys) (λ t. let same = ap is_short ((bytes_eq-Decides xs ys).0 t) in cc)
 other_kind xs ys false c p q e = false_from_ne_true (bytes_eq xs ys) (λ t. let same = ap is_short ((bytes_eq-Decides xs ys).0 t) in cc)
 
-is_eq_nat_cmp : (a b : ℕ) → is_eq (nat_cmp a b) ≡ (a == b)
-is_eq_nat_cmp a b = grind (arith, nat_tests)
-
 cond_or : (a b : Bool) → cond a true b ≡ (a || b)
 cond_or true b = refl
 cond_or false b = refl
 
 -- whether a set has a short name
-pub has_short : (names : NameSet) (q : List ℕ) → is_short q ≡ true → has names q ≡ contains nat_cmp names.short (packed q)
+pub has_short : (names : NameSet) (q : List ℕ) → is_short q ≡ true → has names q ≡ has_number names (packed q)
 unfolding has
-has_short names q e = ap (λ (b : Bool). cond b (contains nat_cmp names.short (packed q)) (contains_text names.long q)) e
+has_short names q e = ap (λ (b : Bool). cond b (has_number names (packed q)) (contains_text names.long q)) e
 
 -- and another
 pub has_long : (names : NameSet) (q : List ℕ) → is_short q ≡ false → has names q ≡ contains_text names.long q
 unfolding has
-has_long names q e = ap (λ (b : Bool). cond b (contains nat_cmp names.short (packed q)) (contains_text names.long q)) e
+has_long names q e = ap (λ (b : Bool). cond b (has_number names (packed q)) (contains_text names.long q)) e
 
-pub has_none : (names : NameSet) → IsEmpty names.short → IsEmpty names.long → (q : List ℕ) → has names q ≡ false
-has_none names short long q = elim (cases_Bool (is_short q)) [
-  | inl here ↦ has_short names q here ∙ rw short refl
+pub has_none : (names : NameSet) → names.rising.items ≡ [] → IsEmpty names.short → IsEmpty names.long → (q : List ℕ) → has names q ≡ false
+has_none names rising short long q = elim (cases_Bool (is_short q)) [
+  | inl here ↦ has_short names q here ∙ rw (rising, short) refl
   | inr away ↦ has_long names q away ∙ rw long refl
 ]
 
 -- one short name more
-pub has_more_short : (old new : NameSet) (name : List ℕ) → is_short name ≡ true → new.long ≡ old.long → Updates nat_cmp old.short new.short (packed name) true
-    → (q : List ℕ) → has new q ≡ (bytes_eq name q || has old q)
-has_more_short old new name short others updates q = elim (cases_Bool (is_short q)) [
+pub has_more_short : (old new : NameSet) (name : List ℕ) → is_short name ≡ true → new.long ≡ old.long
+    → ((n : ℕ) → has_number new n ≡ (packed name == n || has_number old n)) → (q : List ℕ) → has new q ≡ (bytes_eq name q || has old q)
+has_more_short old new name short others more q = elim (cases_Bool (is_short q)) [
   | inl here ↦
       has_short new q here
-      ∙ updates.0 (packed q)
-      ∙ ap (λ (b : Bool). cond b true (contains nat_cmp old.short (packed q))) (is_eq_nat_cmp (packed name) (packed q) ∙ same_number name q short here)
-      ∙ cond_or (bytes_eq name q) (contains nat_cmp old.short (packed q))
+      ∙ more (packed q)
+      ∙ ap (λ (b : Bool). b || has_number old (packed q)) (same_number name q short here)
       ∙ ap (λ (b : Bool). bytes_eq name q || b) (sym (has_short old q here))
   | inr away ↦
       has_long new q away
@@ -89,13 +86,20 @@ has_more_short old new name short others updates q = elim (cases_Bool (is_short 
       ∙ ap (λ (b : Bool). b || has old q) (sym (other_kind name q true false short away refl))
 ]
 
+-- the same names still
+pub has_same_short : (old new : NameSet) → new.long ≡ old.long → ((n : ℕ) → has_number new n ≡ has_number old n) → (q : List ℕ) → has new q ≡ has old q
+has_same_short old new others same q = elim (cases_Bool (is_short q)) [
+  | inl here ↦ has_short new q here ∙ same (packed q) ∙ sym (has_short old q here)
+  | inr away ↦ has_long new q away ∙ ap (λ s. contains_text s q) others ∙ sym (has_long old q away)
+]
+
 -- one longer name more
-pub has_more_long : (old new : NameSet) (name : List ℕ) → is_short name ≡ false → new.short ≡ old.short
+pub has_more_long : (old new : NameSet) (name : List ℕ) → is_short name ≡ false → ((n : ℕ) → has_number new n ≡ has_number old n)
     → UpdatesBy string_cmp (λ k. slice_cmp nat_cmp name (string_bytes k)) old.long new.long true → (q : List ℕ) → has new q ≡ (bytes_eq name q || has old q)
 has_more_long old new name long others updates q = elim (cases_Bool (is_short q)) [
   | inl here ↦
       has_short new q here
-      ∙ ap (λ s. contains nat_cmp s (packed q)) others
+      ∙ others (packed q)
       ∙ sym (has_short old q here)
       ∙ ap (λ (b : Bool). b || has old q) (sym (other_kind name q false true long here refl))
   | inr away ↦

@@ -1,13 +1,13 @@
 -- Names as numbers: different short names have different numbers.
-use Rattle.std.proofs.Common.{◌≡◌, ℕ, ◌+◌, ◌-◌, ◌*◌, ◌<◌, ◌≤◌, List, [], ◌∷◌, length, refl, arith, inl, inr}
+use Rattle.std.proofs.Common.{◌≡◌, ℕ, ◌+◌, ◌*◌, ◌<◌, ◌≤◌, List, [], ◌∷◌, length, refl, arith, inl, inr}
 use Rattle.std.proofs.Math.Nat.{mul-le-mul_right}
 use Rattle.std.proofs.lemmas.Bool.{cases_lt}
 use Rattle.std.specs.List.{fold, AllByRecursion}
-use Rattle.html_tokens.specs.NameSets.{packed}
+use Rattle.html_tokens.specs.PackedNames.{packed}
 
 -- the digits after m
 abbrev pub number_after : ℕ → List ℕ → ℕ
-number_after m xs = fold (λ n b. n * 256 + (255 - b)) m xs
+number_after m xs = fold (λ n b. n * 256 + b) m xs
 
 -- 256 times itself, as often as there are digits
 abbrev size : List ℕ → ℕ
@@ -23,13 +23,13 @@ size_pos (x ∷ xs) = let h = size_pos xs in omega (arith, h)
 
 low : (m : ℕ) (xs : List ℕ) → m * size xs ≤ number_after m xs
 low m [] = omega arith
-low m (x ∷ xs) = let h = low (m * 256 + (255 - x)) xs in omega (arith, h)
+low m (x ∷ xs) = let h = low (m * 256 + x) xs in omega (arith, h)
 
 high : (m : ℕ) (xs : List ℕ) → AreBytes xs → number_after m xs < (m + 1) * size xs
 high m [] _ = omega arith
 high m (x ∷ xs) bytes =
-    let h = high (m * 256 + (255 - x)) xs bytes.1 in
-    let le : m * 256 + (255 - x) + 1 ≤ (m + 1) * 256 = omega (arith, bytes.0) in
+    let h = high (m * 256 + x) xs bytes.1 in
+    let le : m * 256 + x + 1 ≤ (m + 1) * 256 = omega (arith, bytes.0) in
     let more = mul-le-mul_right (size xs) le in
     omega (arith, h, more)
 
@@ -55,7 +55,7 @@ same_digits m n [] (y ∷ ys) _ _ len _ = absurd (omega (arith, len))
 same_digits m n (x ∷ xs) [] _ _ len _ = absurd (omega (arith, len))
 same_digits m n (x ∷ xs) (y ∷ ys) p q len e =
     let len_rest : length xs ≡ length ys = omega (arith, len) in
-    let rest = same_digits (m * 256 + (255 - x)) (n * 256 + (255 - y)) xs ys p.1 q.1 len_rest e in
+    let rest = same_digits (m * 256 + x) (n * 256 + y) xs ys p.1 q.1 len_rest e in
     let front : m ≡ n = omega (arith, rest.0, p.0, q.0) in
     let digit : x ≡ y = omega (arith, rest.0, p.0, q.0) in
     (front, cc (digit, rest.1))

@@ -16,5 +16,6 @@ pub mod CodeReferences
 pub mod Tags
 pub mod Openings
 pub mod Stepping
+pub mod PackedNames
 pub mod NameSets
 pub mod Kept

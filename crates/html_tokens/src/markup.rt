@@ -23,20 +23,6 @@ pub enum Opening {
     Doctype,
 }
 
-impl Opening {
-    /// How many bytes open it.
-    pub fn len(self) -> usize
-        ensures { result ≡ opening_len self }
-    {
-        match self {
-            Opening::StartTag | Opening::Question => 1,
-            Opening::EndTag | Opening::Bogus => 2,
-            Opening::Comment => 4,
-            Opening::Doctype => 9,
-        }
-    }
-}
-
 /// Whether a text begins with `</>`.
 pub fn begins_empty(rest: &str) -> bool
     ensures { result ≡ is_empty_tag rest.now }

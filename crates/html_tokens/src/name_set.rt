@@ -1,10 +1,14 @@
 //! A set of names that no choice of names makes slow.
 //!
-//! A stranger chooses the names of a tag's attributes. An ordered set takes few comparisons for any of them, and needs no
-//! secret, as a hash table would. A short name lies in the set itself, as one number, so that to compare it follows no pointer.
-ghost use Rattle.std.specs.Prelude.{◌≡◌, ℕ, ◌≤◌, List, false, not, ◌||◌, length, IfOk, OnOk, OnErr};
+//! A stranger chooses the names of a tag's attributes. Ordered search takes few comparisons for any of them, and needs no
+//! secret, as a hash table would. A short name is held as one number, so that to compare it follows no pointer. Names that
+//! count up, as those of a program do, have numbers that rise: those lie in one row, and need no tree.
+ghost use Rattle.std.specs.Prelude.{◌≡◌, ℕ, ◌<◌, ◌≤◌, List, true, false, not, ◌||◌, ◌==◌, ◌↔◌, length, IsTrue, IfOk, OnOk, OnErr};
+ghost use Rattle.std.specs.BTreeSet.{contains};
+ghost use Rattle.std.specs.List.Sorted.{IsNonDecreasing};
+ghost use Rattle.std.specs.Ordering.{nat_cmp};
 ghost use Rattle.std.specs.Str.{bytes_eq};
-ghost use Rattle.html_tokens.specs.NameSets.{packed as number_of, has};
+ghost use Rattle.html_tokens.specs.PackedNames.{packed as number_of, ceiling};
 
 use crate::Memory;
 use std::alloc::Global;
@@ -16,35 +20,68 @@ const SHORT: usize = 15;
 /// Names, each of which is there or not.
 #[derive(Drop)]
 pub struct NameSet {
-    /// The short names, each as one number.
+    /// The numbers of short names that came in rising order, each greater than all before it.
+    rising: Vec<u128>,
+    /// The numbers of the other short names. Each is less than the last of `rising`.
     short: BTreeSet<u128>,
     /// The other names.
     long: BTreeSet<String>,
+    ghost rises: { IsNonDecreasing rising.items },
+    ghost below: { (n : ℕ) → contains nat_cmp short n ≡ true → n < ceiling rising.items },
 }
 
-/// The number of a short name: a one, and the bytes as digits after it, the greatest byte as the least.
-///
-/// A node of the set is searched from its least number on. So names that count up, as those of a program do, are found first.
+/// The number of a short name: a one, and the bytes as digits after it.
 fn packed(name: &[u8]) -> u128
     requires { length name.now ≤ 15 }
     ensures { result ≡ number_of name.now }
 {
     let mut number: u128 = 1;
     for byte in name {
-        number = number * 256 + u128::from(255 - *byte);
+        number = number * 256 + u128::from(*byte);
     }
     number
 }
 
 impl NameSet {
+    ghost use Rattle.html_tokens.specs.NameSets.{has, has_number};
+
     /// No names.
     pub fn new(alloc: Global) -> NameSet
         ensures { (q : List ℕ) → has result q ≡ false }
     {
         NameSet {
+            rising: Vec::new(alloc),
             short: BTreeSet::new(alloc),
             long: BTreeSet::new(alloc),
         }
+    }
+
+    /// Whether the number is greater than each that came in rising order, and so than each of the others.
+    fn is_greatest(&self, number: u128) -> bool
+        ensures { IsTrue result ↔ ceiling self.now.rising.items ≤ number }
+    {
+        match self.rising.last() {
+            Some(last) => *last < number,
+            None => true,
+        }
+    }
+
+    /// Adds a short name by its number. The answer is whether it is a new one.
+    fn insert_number(&mut self, number: u128) -> Result<bool, Memory>
+        ensures is_new { IfOk result (λ is_new. is_new ≡ not (has_number self.old number)) }
+        ensures numbers { OnOk result ((q : ℕ) → has_number self.new q ≡ (number == q || has_number self.old q)) }
+        ensures others { self.new.long ≡ self.old.long }
+        ensures err { OnErr result ((q : ℕ) → has_number self.new q ≡ has_number self.old q) }
+    {
+        if self.is_greatest(number) {
+            self.rising.push(number)?;
+            return Ok(true);
+        }
+        if self.rising.binary_search(&number).is_ok() {
+            return Ok(false);
+        }
+        let is_new = self.short.insert(number)?;
+        Ok(is_new)
     }
 
     /// Adds a name. The answer is whether it is a new one.
@@ -55,7 +92,7 @@ impl NameSet {
     {
         if name.len() <= SHORT {
             let number = packed(name.as_bytes());
-            let is_new = self.short.insert(number)?;
+            let is_new = self.insert_number(number)?;
             Ok(is_new)
         } else {
             let text = String::from_str(alloc, name)?;
@@ -97,6 +134,39 @@ mod tests {
             assert!(rt; !names.insert(alloc, *name)?);
         }
         assert!(rt; names.insert(alloc, "data-of-fiftee")?);
+        Ok(())
+    }
+
+    #[test]
+    fn names_rise_and_fall(rt: HostRuntime) -> Result<(), Fail> {
+        let alloc = rt.alloc();
+        let mut names = NameSet::new(alloc);
+        for n in 10..50 {
+            let name = format!(in alloc; "up{n}")?;
+            assert!(rt; names.insert(alloc, name.as_str())?);
+        }
+        for n in 10..50 {
+            let name = format!(in alloc; "up{n}")?;
+            assert!(rt; !names.insert(alloc, name.as_str())?);
+        }
+        // only the first is greater than those before it, since a shorter name has a smaller number
+        for n in (0..120).rev() {
+            let name = format!(in alloc; "down{n}")?;
+            assert!(rt; names.insert(alloc, name.as_str())?);
+        }
+        for n in 0..120 {
+            let name = format!(in alloc; "down{n}")?;
+            assert!(rt; !names.insert(alloc, name.as_str())?);
+        }
+        // between those that came, and the last above them all
+        for name in &["up1", "up100", "up1a", "up5", "v", "data-of-fifteen"] {
+            assert!(rt; names.insert(alloc, *name)?);
+            assert!(rt; !names.insert(alloc, *name)?);
+        }
+        for n in 10..50 {
+            let name = format!(in alloc; "up{n}")?;
+            assert!(rt; !names.insert(alloc, name.as_str())?);
+        }
         Ok(())
     }
 }

@@ -34,7 +34,7 @@ fn push_start(out: &mut String, name: &str, attributes: &Attributes) -> Result<(
 }
 
 // A text and its tokens.
-const ROWS: [(&str, &str); 12] = [
+const ROWS: [(&str, &str); 16] = [
     ("<title>a<b></title>c", "<title>{a<b>}</title>{c}"),
     (
         "<script><!--<script></script>x--></script>y",
@@ -42,6 +42,22 @@ const ROWS: [(&str, &str); 12] = [
     ),
     ("a</>b</ c>d<?e>", "{a}{b}( c){d}(?e)"),
     ("x<b y", "{x}"),
+    (
+        "<scr<script>ipt>x</script>y",
+        "<scr<script>{ipt>x}</script>{y}",
+    ),
+    (
+        "<img src=x onerror=alert(1)><IMG SRC=\"cid:top%40n\" src=\"http://e.example/\">",
+        "<img|src=x|onerror=alert(1)><img|src=cid:top%40n>",
+    ),
+    (
+        "<a href=\"jav&#9;ascript:1\">t</a><a href=\" HTTPS://E.example/a b\">u</a>",
+        "<a|href=jav\tascript:1>{t}</a><a|href= HTTPS://E.example/a b>{u}</a>",
+    ),
+    (
+        "</div></div><p>a<p>b<table><tr><td>1<td>2</table>",
+        "</div></div><p>{a}<p>{b}<table><tr><td>{1}<td>{2}</table>",
+    ),
     (
         "<scr<script>ipt>alert(1)</scr</script>ipt>",
         "<scr<script>{ipt>alert(1)}</scr<>{ipt>}",
@@ -52,8 +68,8 @@ const ROWS: [(&str, &str); 12] = [
     ),
     ("<!--><b>x</b><!-- --!><i>y", "()<b>{x}</b>( )<i>{y}"),
     (
-        "<b title='\"&gt;&notanentity; &copy=1'>&#13;&#0;&#128;&notit;</b>",
-        "<b|title=\">&notanentity; &copy=1>{\r\u{FFFD}\u{20AC}\u{AC}it;}</b>",
+        "<b title='\"&gt;&notanentity; &copy=1'>&#13;&#0;&#128;</b>&notit;",
+        "<b|title=\">&notanentity; &copy=1>{\r\u{FFFD}\u{20AC}}</b>{\u{AC}it;}",
     ),
     ("<!DOCTYPE html>\r\na\rb<c d='\r\n'>", "!{\na\nb}<c|d=\n>"),
     ("<style>&lt;</STYLE >&lt;", "<style>{&lt;}</style>{<}"),

@@ -4,26 +4,39 @@ use html_tokens::{Attributes, Memory, Token};
 use std::alloc::Global;
 use std::io;
 
-/// Prints the tokens of a text, one a line. A run of characters is one line.
+/// Prints the tokens of a text, one a line.
 pub fn print_tokens(rt: &impl Print, alloc: Global, text: &str) -> io::Result<()> {
+    let lines = lines_of(alloc, &plain_tokens(alloc, text)?)?;
+    print!(rt; "{lines}")
+}
+
+/// Tokens one a line. Characters that follow one another are one line, however many tokens hold them.
+pub fn lines_of(alloc: Global, tokens: &[Token]) -> Result<String, Memory> {
+    let mut lines = String::new(alloc);
     let mut run = String::new(alloc);
-    for token in &plain_tokens(alloc, text)? {
+    for token in tokens {
         if let Token::Chars(more) = token {
             run.push_str(more.as_str())?;
         } else {
-            print_run(rt, &mut run)?;
-            println!(rt; "{}", line_of(alloc, token)?)?;
+            push_run(alloc, &mut lines, &mut run)?;
+            push_line(&mut lines, line_of(alloc, token)?.as_str())?;
         }
     }
-    print_run(rt, &mut run)
+    push_run(alloc, &mut lines, &mut run)?;
+    Ok(lines)
 }
 
-fn print_run(rt: &impl Print, run: &mut String) -> io::Result<()> {
+fn push_run(alloc: Global, lines: &mut String, run: &mut String) -> Result<(), Memory> {
     if !run.is_empty() {
-        println!(rt; "Chars {run:?}")?;
+        push_line(lines, format!(in alloc; "Chars {run:?}")?.as_str())?;
         run.clear();
     }
     Ok(())
+}
+
+fn push_line(lines: &mut String, line: &str) -> Result<(), Memory> {
+    lines.push_str(line)?;
+    lines.push('\n')
 }
 
 fn line_of(alloc: Global, token: &Token) -> Result<String, Memory> {

@@ -11,6 +11,8 @@ mod reader;
 mod references;
 mod rows;
 mod state;
+#[cfg(test)]
+mod tests;
 mod token_list;
 mod word;
 

@@ -1,5 +1,5 @@
 use Rattle.std.proofs.Common.{◌≡◌, ◌<◌, ◌*◌, ◌^◌, take}
-use Rattle.html_tokens.specs.NameSets.{packed}
+use Rattle.html_tokens.specs.PackedNames.{packed}
 use Rattle.html_tokens.proofs.name_set.packed.Given as goal
 
 abbrev pub invariant-loop-byte : goal.invariant-loop-byte
