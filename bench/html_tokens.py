@@ -2,14 +2,16 @@
 """Times of the scanner on a newsletter of 1 MB and on hostile texts of 8 to 35 MB, beside html5lib's tokenizer and `grep -c '<'`.
 
 Build the program first, by `rt run < stdin` in crates/tokens_bench. Then run this file, from anywhere, and give it the number of times
-that each text is measured (3 by default). html5lib is a package of most systems; without it that figure is left out. Each figure is
-the least of those times, in nanoseconds for each byte: of the spans alone, and with the token of each. `growth` is how much longer a
-text takes than one of a tenth of its size, which fits a processor's cache. It ends with status 1 where the newsletter is read less
-than 60 times as fast as by html5lib, where a hostile text takes more than 5 times the newsletter's time for each byte, or where one
-that takes more than the newsletter's takes more than 20 times as long at ten times the size.
+that each text is measured (5 by default). html5lib is a package of most systems; without it that figure is left out. A figure is the
+least of those times, in nanoseconds for each byte: of the spans alone, and with the token of each. How many times the newsletter's a
+text's time is, and html5lib's, is the median of pairs that are measured one right after the other, since a machine's pace changes.
+`growth` is how much longer a text takes than one of a tenth of its size, which fits a processor's cache. It ends with status 1 where
+the newsletter is read less than 60 times as fast as by html5lib, where a hostile text takes more than 5 times the newsletter's time for
+each byte, or where one that takes more than the newsletter's takes more than 20 times as long at ten times the size.
 """
 import os
 import random
+import statistics
 import subprocess
 import sys
 import tempfile
@@ -98,25 +100,17 @@ SHAPES = [
 ]
 
 
-def seconds_of(work, path, times, runs):
-    """The least of the times that the program takes, and what it counts. A run may meet a busy processor, so there are some."""
-    least = float("inf")
-    for _ in range(runs):
-        with open(path, "rb") as source:
-            done = subprocess.run([PROGRAM, work, str(times)], stdin=source, capture_output=True, check=True)
-        least = min(least, *(int(line) for line in done.stderr.split()))
-    return least / 1e6, done.stdout.decode().strip()
+def seconds_of(work, path, times):
+    """The least of the times that the program takes in one run, and what it counts."""
+    with open(path, "rb") as source:
+        done = subprocess.run([PROGRAM, work, str(times)], stdin=source, capture_output=True, check=True)
+    return min(int(line) for line in done.stderr.split()) / 1e6, done.stdout.decode().strip()
 
 
-def measured(data, times, runs=2):
-    """For spans and for tokens the seconds and the count; and the seconds that grep takes."""
-    with tempfile.NamedTemporaryFile() as file:
-        file.write(data)
-        file.flush()
-        ours = [seconds_of(work, file.name, times, runs) for work in ("spans", "tokens")]
-        start = time.perf_counter()
-        subprocess.run(["grep", "-c", "<", file.name], stdout=subprocess.DEVNULL, check=False)
-        return ours, time.perf_counter() - start
+def grep_seconds(path):
+    start = time.perf_counter()
+    subprocess.run(["grep", "-c", "<", path], stdout=subprocess.DEVNULL, check=False)
+    return time.perf_counter() - start
 
 
 def html5lib_seconds(text):
@@ -126,29 +120,50 @@ def html5lib_seconds(text):
     return time.perf_counter() - start
 
 
-def measure_newsletter(times, missed):
-    """Prints the newsletter's figures. The answer is its nanoseconds for each byte."""
-    data = newsletter()
-    ((spans, _), (tokens, count)), grep = measured(data, 30, times)
-    nanoseconds = 1e9 / len(data)
-    print(f"newsletter of 1 MB, {count} tokens: spans {spans * nanoseconds:.2f}, tokens {tokens * nanoseconds:.2f}, grep {grep * nanoseconds:.2f}")
+def stored(folder, name, data):
+    path = os.path.join(folder, name)
+    with open(path, "wb") as file:
+        file.write(data)
+    return path
+
+
+class Newsletter:
+    """The text that the others are measured beside."""
+
+    def __init__(self, folder):
+        self.data = newsletter()
+        self.path = stored(folder, "newsletter", self.data)
+        self.nanoseconds = 1e9 / len(self.data)
+
+    def tokens(self):
+        return seconds_of("tokens", self.path, 30)[0] * self.nanoseconds
+
+
+def measure_newsletter(letter, times, missed):
+    spans = min(seconds_of("spans", letter.path, 30)[0] for _ in range(times)) * letter.nanoseconds
+    grep = min(grep_seconds(letter.path) for _ in range(times)) * letter.nanoseconds
+    tokens = [letter.tokens() for _ in range(times)]
+    print(f"newsletter of 1 MB: spans {spans:.2f}, tokens {min(tokens):.2f}, grep {grep:.2f}")
     if HTMLTokenizer:
-        theirs = min(html5lib_seconds(data.decode()) for _ in range(2 * times))
-        print(f"html5lib {theirs * nanoseconds:.0f}: {theirs / tokens:.1f} times (60 are wanted)")
-        if theirs < 60 * tokens:
+        text = letter.data.decode()
+        pairs = [(letter.tokens(), html5lib_seconds(text) * letter.nanoseconds) for _ in range(2 * times)]
+        ratio = statistics.median(theirs / ours for ours, theirs in pairs)
+        print(f"html5lib {min(theirs for _, theirs in pairs):.0f}: {ratio:.1f} times (60 are wanted)")
+        if ratio < 60:
             missed.append("newsletter: less than 60 times html5lib's speed")
-    return tokens * nanoseconds
 
 
-def measure_shape(name, make, size, base, times, missed):
-    data, tenth = make(size), make(size // 10)
-    ((spans, _), (tokens, count)), grep = measured(data, times)
-    growth = tokens / measured(tenth, times)[0][1][0]
+def measure_shape(name, data, tenth, letter, folder, times, missed):
+    path, small = stored(folder, "text", data), stored(folder, "tenth", tenth)
     nanoseconds = 1e9 / len(data)
-    more = tokens * nanoseconds / base
+    spans, count = seconds_of("spans", path, times)
+    runs = [(letter.tokens(), seconds_of("tokens", path, 1)[0], seconds_of("tokens", small, 2)[0]) for _ in range(times)]
+    more = statistics.median(tokens * nanoseconds / base for base, tokens, _ in runs)
+    growth = statistics.median(tokens / few for _, tokens, few in runs)
     print(
-        f"{name:36} spans {spans * nanoseconds:6.2f}  tokens {tokens * nanoseconds:6.2f}  {more:5.2f} times the newsletter"
-        f"  growth {growth:5.1f}  grep {grep * nanoseconds:5.2f}  ({count} tokens of {len(data):,} bytes)"
+        f"{name:36} spans {spans * nanoseconds:6.2f}  tokens {min(tokens for _, tokens, _ in runs) * nanoseconds:6.2f}"
+        f"  {more:5.2f} times the newsletter  growth {growth:5.1f}  grep {grep_seconds(path) * nanoseconds:5.2f}"
+        f"  ({count} spans of {len(data):,} bytes)"
     )
     if more > 5:
         missed.append(f"{name}: more than 5 times the newsletter's time")
@@ -157,11 +172,13 @@ def measure_shape(name, make, size, base, times, missed):
 
 
 def main():
-    times = int(sys.argv[1]) if len(sys.argv) > 1 else 3
+    times = int(sys.argv[1]) if len(sys.argv) > 1 else 5
     missed = []
-    base = measure_newsletter(times, missed)
-    for name, make, size in SHAPES:
-        measure_shape(name, make, size, base, times, missed)
+    with tempfile.TemporaryDirectory() as folder:
+        letter = Newsletter(folder)
+        measure_newsletter(letter, times, missed)
+        for name, make, size in SHAPES:
+            measure_shape(name, make(size), make(size // 10), letter, folder, times, missed)
     for line in missed:
         print("MISSED", line)
     sys.exit(1 if missed else 0)
