@@ -2,7 +2,7 @@
 #![tactic(auto)]
 
 use flowed_text::{Memory, Para, read_flowed, write_flowed};
-use mail_io::Text;
+use mail_values::Text;
 use std::alloc::Global;
 use std::process::ExitCode;
 use std::time::Instant;

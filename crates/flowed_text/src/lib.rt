@@ -5,7 +5,7 @@ mod lines;
 mod reading;
 mod writing;
 
-use mail_io::Text;
+use mail_values::Text;
 pub use reading::read_flowed;
 pub use std::alloc::AllocError as Memory;
 pub use writing::write_flowed;

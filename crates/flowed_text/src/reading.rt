@@ -6,7 +6,7 @@ ghost use Rattle.flowed_text.specs.Reading.{IsSound, continued_by, para_of};
 
 use crate::lines::{first_line, without_first};
 use crate::{Memory, Para};
-use mail_io::Text;
+use mail_values::Text;
 use std::alloc::Global;
 
 /// A paragraph up to the last of its lines so far, and whether that line flows.

@@ -1,5 +1,5 @@
 use crate::*;
-use mail_io::Text;
+use mail_values::Text;
 use std::alloc::Global;
 use std::test::Fail;
 

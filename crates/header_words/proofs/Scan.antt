@@ -8,7 +8,7 @@ use Rattle.std.proofs.lemmas.List.{append-nil, drop-drop, get_or-drop, get_or-ta
 use Rattle.std.proofs.Math.Seq.{get_or-append_seam}
 use Rattle.std.proofs.lemmas.List.Sums.{take_while-cons, passes_at_first}
 use Rattle.std.proofs.lemmas.List.Elements.{filter-append}
-use Rattle.mail_io.proofs.Pieces.{take_further}
+use Rattle.mail_values.proofs.Prefixes.{take_further}
 use Rattle.header_words.specs.Lines.{is_newline, first_text, first_size, header_lines, body_of}
 use Rattle.header_words.specs.Fields.{FieldValue, Header, name_of, value_of, field_of, fields_of, own_lines, begins_field, is_continuation, header_of}
 use Rattle.header_words.specs.Places.{field_of_lines, raw_field, field_between, fields_at, Rise, starts_with, header_at}

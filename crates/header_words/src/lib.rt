@@ -10,7 +10,7 @@ mod words;
 
 pub use decoding::{decoded, decoded_words, trim, unfolded};
 pub use header::{Field, Fields};
-pub use mail_io::Memory;
+pub use mail_values::Memory;
 pub use reading::fields;
 
 #[cfg(test)]

@@ -9,7 +9,7 @@ use crate::attributes::Attributes;
 use crate::name_set::NameSet;
 use crate::stretch::{ReadAs, read_stretch};
 use crate::tags::{AttributePlace, attribute, begins_attribute, gap};
-use mail_io::Text;
+use mail_values::Text;
 use std::alloc::Global;
 use std::marker::Model;
 

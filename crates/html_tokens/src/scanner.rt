@@ -15,7 +15,7 @@ use crate::step::step_at;
 use crate::stretch::{ReadAs, read_stretch};
 use crate::tags::{name_end, tag_end};
 use crate::{Memory, Token};
-use mail_io::Text;
+use mail_values::Text;
 use std::alloc::Global;
 use std::marker::Model;
 

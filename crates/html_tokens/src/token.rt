@@ -1,6 +1,6 @@
 //! A token as code holds it.
 use crate::Attributes;
-use mail_io::Text;
+use mail_values::Text;
 
 /// A token of an HTML text. `Chars` stands for one character token for each of its characters.
 ///

@@ -1,6 +1,6 @@
 //! Commands.
 
-use mail_io::{Bytes, Text};
+use mail_values::{Bytes, Text};
 
 /// A flag of a message that is set or cleared (RFC 9051 §2.3.2).
 #[derive(Clone, Copy, Debug, PartialEq, Eq)]

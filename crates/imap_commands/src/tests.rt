@@ -1,5 +1,5 @@
 use crate::*;
-use mail_io::{Bytes, Text};
+use mail_values::{Bytes, Text};
 use std::alloc::Global;
 use std::test::Fail;
 

@@ -6,7 +6,7 @@ ghost use Rattle.imap_responses.specs.Things.{bytes_of};
 use crate::items::Items;
 use crate::slices::Slices;
 use imap_commands::UidSet;
-use mail_io::Bytes;
+use mail_values::Bytes;
 
 /// The word of a state (RFC 9051 §7.1).
 #[derive(Clone, Copy, Debug, PartialEq, Eq)]

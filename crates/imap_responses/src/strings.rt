@@ -9,7 +9,7 @@ ghost use Rattle.imap_responses.specs.Strings.{IsQuoteAt, NoQuoteBefore, unescap
 use crate::response::Lent;
 use crate::stop::Stop;
 use crate::words::{Class, is, is_all, number};
-use mail_io::Bytes;
+use mail_values::Bytes;
 use memchr::memchr2;
 use std::alloc::{AllocError, Global};
 

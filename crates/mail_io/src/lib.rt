@@ -1,25 +1,20 @@
-//! What reaches the program from outside, and the small types that crates share.
+//! Input and output of the program: traits that count their faults, and what implements them.
 //!
-//! Sources and sinks are traits that count their faults and say, where they can tell, which bytes they have left or have
-//! taken. Beside them stand forms in memory for tests, adapters over std's readers and writers, and the two loops that read
-//! a source to its end and write bytes whole. `Text`, `Bytes` and `Words` are owned values that contracts see as lists;
-//! `Section` is the number of a part of a message.
+//! A `Source` and a `Sink` count their faults and, if they can tell, say which bytes they have left or have taken. In-memory
+//! implementations serve the tests, adapters wrap std's readers and writers, `read_to_end` and `write_whole` are the loops
+//! over them. The shared types of `mail_values` are handed on under their names.
 #![tactic(auto)]
 
 pub mod memory;
 pub mod outside;
-pub mod sections;
 pub mod standard;
 pub mod stream;
-pub mod texts;
 
+pub use mail_values::{Bytes, Memory, Section, Text, Words};
 pub use memory::{MemorySink, MemorySource};
 pub use outside::{Failed, Sink, Source};
-pub use sections::Section;
 pub use standard::{ReaderSource, WriterSink};
-pub use std::alloc::AllocError as Memory;
 pub use stream::{InputFault, read_to_end, write_whole};
-pub use texts::{Bytes, Text, Words};
 
 #[cfg(test)]
 mod tests;

@@ -3,7 +3,7 @@ use Rattle.std.proofs.Common.{◌≡◌, ◌≢◌, ℕ, zero, suc, ◌+◌, ◌
 use Rattle.std.proofs.lemmas.Bool.{and_from, and_left, and_right, cases_Bool}
 use Rattle.std.proofs.lemmas.List.{map-append, append_cancel_left}
 use Rattle.std.specs.Prelude.{unwrap_or, slice_range}
-use Rattle.mail_io.specs.Section.{numbers_of}
+use Rattle.mail_values.specs.Section.{numbers_of}
 use Rattle.mime_tree.specs.declared.body.Range.{Range}
 use Rattle.mime_tree.specs.declared.node.Position.{Position}
 use Rattle.mime_tree.specs.declared.node.Position.TheVariants.{Body, Child}

@@ -1,7 +1,7 @@
 -- The parts of a message: its multiparts and messages are opened in tree order (RFC 2046 §5.1 and §5.2.1).
 use Rattle.std.specs.Prelude.{◌≡◌, ℕ, zero, suc, ◌+◌, ◌≤◌, Bool, true, false, not, ◌&&◌, ◌||◌, List, [], ◌∷◌, ◌++◌, length, if◌then◌else◌, nat_le, Some, None, is_some, unwrap_or, codes, slice_range}
 use Rattle.header_words.specs.Fields.{header_of}
-use Rattle.mail_io.specs.Section.{numbers_of}
+use Rattle.mail_values.specs.Section.{numbers_of}
 use Rattle.transfer_codings.specs.declared.coding.Coding.TheVariants.{Plain}
 use Rattle.mime_tree.specs.declared.body.Range.{Range}
 use Rattle.mime_tree.specs.declared.content.Content.{Content}

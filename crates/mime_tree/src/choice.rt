@@ -4,7 +4,7 @@ ghost use Rattle.std.specs.Option.{option_copied};
 ghost use Rattle.mime_tree.specs.Best.{part_at, has_section, is_html, is_text, counts, counts_in, is_alternative_at, taken_in, given, shown_as, best_of};
 
 use crate::parts::{Part, Tree};
-use mail_io::Section;
+use mail_values::Section;
 use transfer_codings::charset_of;
 
 /// The most numbers of a section.

@@ -11,7 +11,7 @@ ghost use Rattle.mime_tree.specs.Content.{content_of, field_value, is_token, is_
 use crate::lines::{is_named, place_of};
 use crate::pieces::{first_piece, parameter};
 use header_words::{Fields, decoded_words, trim, unfolded};
-use mail_io::{Bytes, Text};
+use mail_values::{Bytes, Text};
 use std::alloc::{AllocError, Global};
 use transfer_codings::Coding;
 

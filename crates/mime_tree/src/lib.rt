@@ -16,7 +16,7 @@ pub mod pieces;
 pub mod reading;
 
 pub use choice::{Shown, best, part, shown_as};
-pub use mail_io::Section;
+pub use mail_values::Section;
 pub use parts::{Part, Tree};
 pub use reading::tree;
 pub use std::alloc::AllocError as Memory;

@@ -1,6 +1,6 @@
 //! Parts that aren't yet opened.
 use crate::content::Content;
-use mail_io::Section;
+use mail_values::Section;
 
 /// Where a part stands.
 #[derive(Clone, Copy)]

@@ -1,6 +1,6 @@
 //! Opens the multiparts and messages of a message, in tree order.
 ghost use Rattle.std.specs.Prelude.{◌≡◌, ◌+◌, ◌-◌, ◌<◌, ◌≤◌, ◌++◌, ◌∷◌, [], length, IfOk, OnOk, IfSome, IfNone, All, reverse, codes, unwrap_or, slice_range, true, false, ◌&&◌, IsTrue, Some, None};
-ghost use Rattle.mail_io.specs.Section.{numbers_of};
+ghost use Rattle.mail_values.specs.Section.{numbers_of};
 ghost use Rattle.mime_tree.specs.Body.{IsWithin};
 ghost use Rattle.mime_tree.specs.Content.{is_multipart, is_message, is_alternative, default_in};
 ghost use Rattle.mime_tree.specs.Tree.{PartValue};
@@ -12,7 +12,7 @@ use crate::content::{Content, read_content};
 use crate::node::{Node, Position};
 use crate::parts::Part;
 use header_words::fields;
-use mail_io::Section;
+use mail_values::Section;
 use std::alloc::{AllocError, Global};
 
 /// The most parts of a tree.

@@ -4,7 +4,7 @@ ghost use Rattle.std.specs.Option.{option_copied};
 ghost use Rattle.mime_tree.specs.Content.{is_multipart, is_message};
 
 use crate::content::{Content, has_message, has_parts};
-use mail_io::Section;
+use mail_values::Section;
 use std::marker::Model;
 use transfer_codings::Coding;
 

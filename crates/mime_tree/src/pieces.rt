@@ -5,7 +5,7 @@ ghost use Rattle.mime_tree.specs.declared.pieces.Quoting.TheVariants.{Inside, Ou
 
 use crate::lines::{is_named, place_of};
 use header_words::trim;
-use mail_io::Bytes;
+use mail_values::Bytes;
 use std::alloc::{AllocError, Global};
 
 /// How a place of a field stands to its quoted strings.

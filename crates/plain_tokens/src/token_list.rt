@@ -6,7 +6,7 @@ ghost use Rattle.html_tokens.specs.Held.{meaning, meanings};
 
 use crate::word::Word;
 use html_tokens::{Attributes, Memory, Token};
-use mail_io::Text;
+use mail_values::Text;
 use std::alloc::Global;
 use std::marker::Model;
 

@@ -4,7 +4,7 @@ ghost use Rattle.html_tokens.specs.Characters.{lower};
 ghost use Rattle.html_tokens.specs.States.{same};
 
 use html_tokens::Memory;
-use mail_io::Text;
+use mail_values::Text;
 use std::alloc::Global;
 use std::marker::Model;
 

@@ -16,7 +16,7 @@ use Rattle.page_writer.proofs.Nesting.{open_after-text}
 use Rattle.page_writer.proofs.Parts.{is_frame-append, is_frame-text, is_message-append, is_message-text, loads-append, loads-text}
 use Rattle.header_words.specs.Fields.{FieldValue, header_of, first_of}
 use Rattle.header_words.specs.Value.{decoded_of}
-use Rattle.mail_io.specs.Section.{spelling}
+use Rattle.mail_values.specs.Section.{spelling}
 use Rattle.mime_tree.specs.declared.choice.Shown.{Shown}
 use Rattle.mime_tree.specs.declared.choice.Shown.TheVariants.{Plain, Flowed, Html, Unread, Nothing}
 use Rattle.mime_tree.specs.Best.{part_at}

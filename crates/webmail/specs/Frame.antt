@@ -6,7 +6,7 @@ use Rattle.html_tokens.specs.Token.Token.{Start, End, Char, Doctype}
 use Rattle.page_writer.specs.Tables.{Name}
 use Rattle.page_writer.specs.Writer.{Page, shown_tokens, shown_values}
 use Rattle.page_writer.specs.Writing.{plain, with}
-use Rattle.mail_io.specs.Section.{spelling}
+use Rattle.mail_values.specs.Section.{spelling}
 use Rattle.header_words.specs.Fields.{FieldValue, first_of}
 use Rattle.header_words.specs.Value.{decoded_of}
 use Rattle.mime_tree.specs.Content.{is_multipart, is_message}

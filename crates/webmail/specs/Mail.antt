@@ -3,7 +3,7 @@ use Rattle.std.specs.Prelude.{ℕ, Bool, true, false, ◌||◌, List, [], ◌∷
 use Rattle.html_tokens.specs.Token.{Token}
 use Rattle.html_tokens.specs.Token.Token.{End}
 use Rattle.page_writer.specs.Writing.{plain}
-use Rattle.mail_io.specs.Section.{spelling}
+use Rattle.mail_values.specs.Section.{spelling}
 use Rattle.transfer_codings.specs.Codings.{decoded}
 use Rattle.transfer_codings.specs.Charsets.{charset_named, text_in}
 use Rattle.transfer_codings.specs.declared.charset.Charset.TheVariants.{Utf8}

@@ -3,7 +3,7 @@ use Rattle.std.specs.Prelude.{◌≡◌, ◌≢◌, ℕ, ◌<◌, ◌==◌, ◌&
 use Rattle.std.specs.List.{list_any}
 use Rattle.std.specs.Option.{option_map}
 use Rattle.std.specs.Io.KnownBytes.{Appends}
-use Rattle.mail_io.specs.Section.{IsSection, spelling}
+use Rattle.mail_values.specs.Section.{IsSection, spelling}
 use Rattle.mail_io.specs.Stream.{ReadsWhole, WritesSome}
 use Rattle.html_tokens.specs.Tokenizer.{tokens_of_bytes, same}
 use Rattle.page_writer.specs.Page.{spell}

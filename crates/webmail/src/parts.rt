@@ -1,7 +1,7 @@
 //! The list of a message's parts.
 ghost use Rattle.std.specs.Prelude.{◌≡◌, ◌++◌, [], ◌∷◌, codes, chars, IfOk, OnOk, IsTrue, length, string_bytes};
 ghost use Rattle.page_writer.specs.Page.{takes_tags};
-ghost use Rattle.mail_io.specs.Section.{spelling};
+ghost use Rattle.mail_values.specs.Section.{spelling};
 ghost use Rattle.webmail.specs.Frame.{with_tokens, text, link, part_link, name_words, part_words, part_item, leaf_item, part_items, part_list};
 
 use crate::elements::{open, open_with};

@@ -9,7 +9,7 @@ use Rattle.std.proofs.lemmas.Bool.{ne_eqb}
 use Rattle.std.proofs.lemmas.List.Elements.{All-take}
 use Rattle.std.proofs.lemmas.List.{length-map, map-append, get_or-map}
 use Rattle.std.proofs.lemmas.List.Splits.{slice_split_at, slice_split_none}
-use Rattle.mail_io.specs.Section.{IsNumber, IsSection, spelling, numbers_of, one_more}
+use Rattle.mail_values.specs.Section.{IsNumber, IsSection, spelling, numbers_of, one_more}
 
 -- what spells a number parses as it
 pub parsed : {E : Type 0} (n : ℕ) (bs : List ℕ) (r : Result ℕ E) → IsNumber n → decimal n ≡ bs → ParsesUnsigned 16 10 bs r → r ≡ Ok n

@@ -1,6 +1,6 @@
 use Rattle.std.proofs.Common.{ap, Some}
-use Rattle.mail_io.proofs.Spellings.{parsed, same_number, not_spelled, not_refused}
-use Rattle.mail_io.proofs.sections.read_number.Goals as goal
+use Rattle.mail_values.proofs.Spellings.{parsed, same_number, not_spelled, not_refused}
+use Rattle.mail_values.proofs.sections.read_number.Goals as goal
 
 pub returns-in-Ok-clause-found : goal.returns-in-Ok-clause-found
 returns-in-Ok-clause-found c = λ n number e. ap Some (same_number c.parse.result c.in-Ok.number n c.in-Ok.is (parsed n c.args.text.now c.parse.result number e c.parse.ensures.value.0))

@@ -2,8 +2,8 @@ use Rattle.std.proofs.Common.{◌≡◌, ℕ, ap, length, lit<, arith, true, fal
 use Rattle.std.proofs.lemmas.List.{length-take-le}
 use Rattle.std.proofs.lemmas.Iterator.Consumers.{YieldsList-at, YieldsList-turn, YieldsList-end}
 use Rattle.std.proofs.lemmas.Iterator.Splits.{YieldsList-from_str_split}
-use Rattle.mail_io.proofs.Spellings.{piece_at, some_is_none, same_some, pieces_more, one_further, all_read}
-use Rattle.mail_io.proofs.sections.Section.read.Goals as goal
+use Rattle.mail_values.proofs.Spellings.{piece_at, some_is_none, same_some, pieces_more, one_further, all_read}
+use Rattle.mail_values.proofs.sections.Section.read.Goals as goal
 
 pub returns-in_err-number-clause-found : goal.returns-in_err-number-clause-found
 returns-in_err-number-clause-found c = λ numbers section e.

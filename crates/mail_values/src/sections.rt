@@ -1,6 +1,6 @@
 //! The number of a part of a message (RFC 9051 §6.4.5.1).
 ghost use Rattle.std.specs.Prelude.{◌≡◌, ◌<◌, ◌≤◌, ◌^◌, ◌↔◌, ℕ, List, ◌++◌, ◌∷◌, [], length, decimal, IfOk, OnOk, IfSome, IsTrue, IsSome, Some, string_bytes};
-ghost use Rattle.mail_io.specs.Section.{IsNumber, IsSection, spelling, numbers_of, one_more};
+ghost use Rattle.mail_values.specs.Section.{IsNumber, IsSection, spelling, numbers_of, one_more};
 
 use itoa::Buffer;
 use std::alloc::{AllocError, Global};
@@ -19,7 +19,7 @@ pub struct Section {
 
 impl Model for Section {
     ghost use Rattle.std.specs.Prelude.{List, ℕ, take, length};
-    ghost use Rattle.mail_io.specs.Section.{padded, IsKept};
+    ghost use Rattle.mail_values.specs.Section.{padded, IsKept};
 
     ghost Value = { List ℕ };
 
