@@ -28,7 +28,7 @@ except ImportError:
 LARGE = 26_000_000
 MANY = 4_000_000
 HERE = os.path.dirname(os.path.abspath(__file__))
-PROGRAM = os.path.join(HERE, "..", "crates", "tokens_bench", "out", "tokens_bench")
+PROGRAM = os.path.join(HERE, "..", "crates", "bench", "out", "bench")
 
 ROW = (
     '<tr><td align="left" valign="top" width="300" style="padding:10px 20px;font-family:Arial,sans-serif;color:#333333">'
@@ -104,7 +104,7 @@ def seconds_of(work, path, times):
     """The least of the times that the program takes in one run, and what it counts."""
     with open(path, "rb") as source:
         done = subprocess.run([PROGRAM, work, str(times)], stdin=source, capture_output=True, check=True)
-    return min(int(line) for line in done.stderr.split()) / 1e6, done.stdout.decode().strip()
+    return min(int(line.split()[0]) for line in done.stderr.splitlines()) / 1e6, done.stdout.decode().strip()
 
 
 def grep_seconds(path):

@@ -1,15 +1,25 @@
-//! Reads the tree of the message on standard input once or more, writes its parts, and says how long each time took.
-#![tactic(auto)]
+//! The tree of a message's parts.
 
 use itoa::Buffer;
-use mime_tree::{Coding, Memory, Part, Section, Shown, Tree, best, tree};
+use mail_values::{Memory, Section};
+use mime_tree::{Coding, Part, Shown, best, tree};
 use std::alloc::Global;
-use std::io::{Read, Write};
-use std::process::ExitCode;
-use std::time::Instant;
-use std::{env, io};
 
-const USAGE: &str = "usage: mime_bench [TIMES]";
+pub fn count_parts(alloc: Global, message: &[u8]) -> Result<usize, Memory> {
+    Ok(tree(alloc, message)?.parts().len())
+}
+
+/// A line for each part, and one for the displayed part.
+pub fn list_parts(alloc: Global, message: &[u8]) -> Result<String, Memory> {
+    let tree = tree(alloc, message)?;
+    let mut text = String::new(alloc);
+    for part in tree.parts() {
+        push_part(&mut text, alloc, part)?;
+    }
+    let shown = best(&tree);
+    push_shown(&mut text, alloc, &shown)?;
+    Ok(text)
+}
 
 fn push_section(text: &mut String, alloc: Global, section: &Section) -> Result<(), Memory> {
     let spelling = section.spell(alloc)?;
@@ -32,7 +42,7 @@ fn format_name(format: Option<bool>) -> &'static str {
     }
 }
 
-/// Adds a part's line: its section, type, charset, coding, format, size, and name.
+/// Appends a part's line: its section, type, charset, coding, format, disposition, size and name.
 fn push_part(text: &mut String, alloc: Global, part: &Part<'_>) -> Result<(), Memory> {
     push_section(text, alloc, part.section())?;
     text.push(' ')?;
@@ -54,7 +64,6 @@ fn push_part(text: &mut String, alloc: Global, part: &Part<'_>) -> Result<(), Me
     text.push('\n')
 }
 
-/// Adds what is shown of the message.
 fn push_shown(text: &mut String, alloc: Global, shown: &Shown) -> Result<(), Memory> {
     match shown {
         Shown::Plain(section) => push_named(text, alloc, "plain", section),
@@ -76,47 +85,4 @@ fn push_named(
     text.push(' ')?;
     push_section(text, alloc, section)?;
     text.push('\n')
-}
-
-fn listing(alloc: Global, tree: &Tree<'_>) -> Result<String, Memory> {
-    let mut text = String::new(alloc);
-    for part in tree.parts() {
-        push_part(&mut text, alloc, part)?;
-    }
-    let shown = best(tree);
-    push_shown(&mut text, alloc, &shown)?;
-    Ok(text)
-}
-
-// Writes the microseconds of each time to standard error, and then the parts to standard output.
-fn run(rt: &HostRuntime, times: u32) -> io::Result<()> {
-    let mut message = Vec::new(rt.alloc());
-    rt.stdin().read_to_end(&mut message)?;
-    for _ in 0..times {
-        let start = Instant::now(rt)?;
-        let read = tree(rt.alloc(), &message)?;
-        let microseconds = start.elapsed(rt)?.as_micros();
-        let count = read.parts().len();
-        eprintln!(rt; "{microseconds} {count}")?;
-    }
-    let read = tree(rt.alloc(), &message)?;
-    let text = listing(rt.alloc(), &read)?;
-    rt.stdout().write_all(text.as_bytes())
-}
-
-fn main(rt: HostRuntime) -> io::Result<ExitCode> {
-    let words = env::args(&rt)?.skip(1).collect::<Vec<String>>(rt.alloc())?;
-    let times = words
-        .first()
-        .map_or(Some(0), |word| word.as_str().parse::<u32>().ok());
-    match times {
-        Some(times) => {
-            run(&rt, times)?;
-            Ok(ExitCode::SUCCESS)
-        }
-        None => {
-            eprintln!(rt; "{USAGE}")?;
-            Ok(ExitCode::from(2))
-        }
-    }
 }

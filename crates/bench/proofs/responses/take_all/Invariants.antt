@@ -1,5 +1,5 @@
 use Rattle.std.proofs.Common.{length}
-use Rattle.imap_bench.proofs.take_all.Given as goal
+use Rattle.bench.proofs.responses.take_all.Given as goal
 
 abbrev pub invariant-loop-reader : goal.invariant-loop-reader
 invariant-loop-reader l = Unit {0}
