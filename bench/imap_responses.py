@@ -16,8 +16,7 @@ import time
 HERE = os.path.dirname(os.path.abspath(__file__))
 PROGRAM = os.path.join(HERE, "..", "crates", "bench", "out", "bench")
 LITERAL = 33_554_432
-# the work that reads the stream whole, and in pieces of so many bytes
-WHOLE, BY_64, BY_1 = "responses", "responses-64", "responses-byte"
+WHOLE = "responses"
 
 
 def fetch_lines(count=100_000, length=300):
@@ -59,7 +58,9 @@ def sizes_of_nothing(count=5_000_000):
     return b"* X {0}\r\n" + b"{0}\r\n" * count + b"\r\n"
 
 
-def ours(stream, work, times):
+def ours(stream, piece, times):
+    """The least milliseconds, and what was read, if the stream comes in pieces of that many bytes."""
+    work = piece if piece == WHOLE else f"{WHOLE}-{piece}"
     done = subprocess.run([PROGRAM, work, str(times)], input=stream, capture_output=True, check=True)
     figures = [int(row.split()[0]) / 1000 for row in done.stderr.split(b"\n") if row]
     return min(figures), done.stdout.decode().replace("\n", ", ").strip(", ")

@@ -11,7 +11,7 @@ const CASES: [(&str, &str); 8] = [
         "Content-Type: multipart/alternative; boundary=a\n\n--a\n\nhi\n--a\nContent-Type: text/html; charset=UTF-8; name=\"a b\"\nContent-Transfer-Encoding: base64\n\nPGI+\n--a--\n",
     ),
     (
-        "responses-byte",
+        "responses-1",
         "* OK hi\r\n* 1 FETCH (UID 7 BODY[] {5}\r\na\r\n)b)\r\n* 2 FETCH (UID 8 FLAGS (\\Seen))\r\n* 3 FETCH (UID x)\r\n* OK late\r\n",
     ),
     (
