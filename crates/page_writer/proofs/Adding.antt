@@ -3,7 +3,8 @@ use Rattle.std.proofs.Common.{◌≡◌, ℕ, List, [], ◌∷◌, ◌++◌, ref
 use Rattle.html_tokens.specs.Token.{Token}
 use Rattle.html_tokens.specs.Token.Token.{Char}
 use Rattle.html_tokens.specs.Tokenizer.{shown}
-use Rattle.page_writer.specs.Writer.{Page, added, added_all, with_text, shown_tokens}
+use Rattle.html_rules.specs.Tokens.{shown_tokens}
+use Rattle.page_writer.specs.Writer.{Page, added, added_all, with_text}
 
 -- one part after the other
 pub added_all-append : (page : Page) (xs ys : List Token) → added_all page (xs ++ ys) ≡ added_all (added_all page xs) ys

@@ -11,8 +11,8 @@ use Rattle.html_tokens.specs.Token.{Attribute, name_at, value_at, none}
 use Rattle.html_tokens.specs.Token.Token.{Start, End}
 use Rattle.page_writer.specs.Page.{spell_char, spell_chars, spell_attribute, spell_attributes, spell_token}
 use Rattle.page_writer.specs.Bytes.{spell_byte, spell_bytes, attribute_bytes, Extends, AreTexts}
-use Rattle.page_writer.proofs.Facts.{spelled}
-use Rattle.page_writer.proofs.Facts.Spelled.{is_lt, is_gt, is_amp, is_quot, is_cr, itself}
+use Rattle.page_writer.proofs.Names.{spelled}
+use Rattle.page_writer.proofs.Names.Spelled.{is_lt, is_gt, is_amp, is_quot, is_cr, itself}
 use Rattle.std.specs.Option.{is_some}
 use Rattle.memchr.specs.Find.{is_byte3, IsFirstByte}
 use lib.Utf8.{encode, encodes, scalars}

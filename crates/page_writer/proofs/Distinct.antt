@@ -3,9 +3,9 @@ use Rattle.std.proofs.Common.{◌≡◌, ℕ, true, false, not, List, [], ◌∷
 use Rattle.std.specs.List.{AllByRecursion}
 use Rattle.html_tokens.specs.Token.{Attribute}
 use Rattle.html_tokens.specs.Tokenizer.{has_name, same}
-use Rattle.page_writer.specs.Tables.{is_attribute_name}
+use Rattle.html_rules.specs.Tables.{is_attribute_name}
 use Rattle.page_writer.specs.Page.{IsShown, are_attributes, are_distinct}
-use Rattle.page_writer.proofs.Facts.{and_true, no_of, or_false, same-true, same-refl}
+use Rattle.html_rules.proofs.Facts.{and_true, no_of, or_false, same-true, same-refl}
 
 -- of the lists, with values that can be shown, and none of a name that stands before it
 abbrev pub AreAttributes : List Attribute → List Attribute → Type 0

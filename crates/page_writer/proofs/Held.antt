@@ -7,10 +7,11 @@ use Rattle.html_tokens.specs.Token.Token.{Start, Doctype}
 use Rattle.html_tokens.specs.Tokenizer.{tokens_of_bytes, has_name, same, shown}
 use Rattle.page_writer.specs.Page.{IsShown, spell, spell_char, spell_chars, spell_attributes, spell_token, are_attributes, are_distinct, MayStart, MayCome, inside_after, Leads}
 use Rattle.page_writer.specs.Bytes.{AreTexts}
-use Rattle.page_writer.specs.Tables.{Name, is_attribute_name}
+use Rattle.html_rules.specs.Tables.{Name, is_attribute_name}
 use Rattle.std.specs.List.{AllByRecursion, list_all}
-use Rattle.page_writer.specs.Writer.{Page, page_of, IsHeld, shown_tokens, shown_values}
-use Rattle.page_writer.proofs.Facts.{and_true}
+use Rattle.html_rules.specs.Tokens.{shown_tokens, shown_values}
+use Rattle.page_writer.specs.Writer.{Page, page_of, IsHeld}
+use Rattle.html_rules.proofs.Facts.{and_true}
 use Rattle.page_writer.proofs.Law.{law_of_bytes}
 
 pub Leads-append : (inside : List (List ℕ)) (xs : List Token) (between : List (List ℕ)) (ys : List Token) (after : List (List ℕ)) → Leads inside xs between → Leads between ys after → Leads inside (xs ++ ys) after

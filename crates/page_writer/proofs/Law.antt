@@ -11,10 +11,11 @@ use Rattle.html_tokens.specs.Tokenizer.Kind.{Rcdata}
 use Rattle.html_tokens.specs.Tokenizer.State.{Data, Raw}
 use Rattle.html_tokens.specs.References.{is_between}
 use Rattle.page_writer.specs.Page.{IsShown, spell_char, spell_chars, spell_attribute, spell_attributes, spell_token, spell, takes_tags, MayCome, inside_after, Leads}
-use Rattle.page_writer.specs.Tables.{is_element, is_text, is_void, message_elements, frame_elements, text_elements, message_voids, frame_voids}
+use Rattle.html_rules.specs.Tables.{is_element, is_text, is_void, message_elements, frame_elements, text_elements, message_voids, frame_voids}
 use Rattle.page_writer.proofs.Distinct.{AreAttributes, attributes_of}
-use Rattle.page_writer.proofs.Facts.{same-true, among_all, and_true, no_of, is_name, is_name_char, name_chars, element_name, attribute_name, spelled}
-use Rattle.page_writer.proofs.Facts.Spelled.{is_lt, is_gt, is_amp, is_quot, is_cr, itself}
+use Rattle.html_rules.proofs.Facts.{same-true, among_all, and_true, no_of}
+use Rattle.page_writer.proofs.Names.{is_name, is_name_char, name_chars, element_name, attribute_name, spelled}
+use Rattle.page_writer.proofs.Names.Spelled.{is_lt, is_gt, is_amp, is_quot, is_cr, itself}
 use Rattle.page_writer.proofs.Reading.{not_nul, data_char, text_char, start_reads, end_reads, title_end, textarea_end, doctype_reads}
 
 -- the state in which a page stands where these elements are open

@@ -7,10 +7,11 @@ use Rattle.html_tokens.specs.Token.{Token, Attribute}
 use Rattle.html_tokens.specs.Token.Token.{Start, End, Char, Comment, Doctype}
 use Rattle.html_tokens.specs.Tokenizer.{tokens_of_bytes}
 use Rattle.html_tokens.specs.References.{is_between}
-use Rattle.page_writer.specs.Tables.{is_element, is_void}
+use Rattle.html_rules.specs.Tables.{is_element, is_void}
 use Rattle.page_writer.specs.Page.{spell_token, MayCome, outer, inside_after, Leads}
 use Rattle.page_writer.specs.Writer.{Page, page_of, names_of, added, IsHeld, innermost}
-use Rattle.page_writer.proofs.Facts.{and_true, is_name, is_name_char, name_chars, name_char, element_name, letter_char, same-refl}
+use Rattle.html_rules.proofs.Facts.{and_true, same-refl}
+use Rattle.page_writer.proofs.Names.{is_name, is_name_char, name_chars, name_char, element_name, letter_char}
 use Rattle.page_writer.proofs.Held.{adds}
 
 pub record Moves (r : Bool) (new : List ℕ) (names : List (List ℕ)) (t : Token) (self : Page) : Type 0 where

@@ -11,8 +11,9 @@ use Rattle.html_tokens.specs.Tokenizer.State.{Data, Raw, TagName, BeforeName, At
 use Rattle.page_writer.specs.Page.{spell_attributes, spell_token, spell_char, spell_chars, IsShown}
 use Rattle.page_writer.proofs.Distinct.{AreAttributes}
 use Rattle.html_tokens.specs.References.{is_between}
-use Rattle.page_writer.proofs.Facts.{attribute_name, Letter, letter_char, is_name, NameChar, name_char, is_name_char, name_chars, and_true, no_of, spelled}
-use Rattle.page_writer.proofs.Facts.Spelled.{is_lt, is_gt, is_amp, is_quot, is_cr, itself}
+use Rattle.html_rules.proofs.Facts.{and_true, no_of}
+use Rattle.page_writer.proofs.Names.{attribute_name, Letter, letter_char, is_name, NameChar, name_char, is_name_char, name_chars, spelled}
+use Rattle.page_writer.proofs.Names.Spelled.{is_lt, is_gt, is_amp, is_quot, is_cr, itself}
 
 -- ---- characters
 

@@ -6,7 +6,7 @@ use Rattle.html_tokens.specs.Characters.{null, carriage_return, space, quotation
 use Rattle.html_tokens.specs.Token.{Attribute, Token}
 use Rattle.html_tokens.specs.Token.Token.{Start, End, Char, Comment, Doctype}
 use Rattle.html_tokens.specs.Tokenizer.{has_name, same, tokens_of_bytes}
-use Rattle.page_writer.specs.Tables.{Name, is_element, is_void, is_text, is_attribute_name}
+use Rattle.html_rules.specs.Tables.{Name, is_element, is_void, is_text, is_attribute_name}
 
 -- ---- spelling (HTML Standard, 13.1 and 13.3)
 

@@ -1,9 +1,9 @@
 -- A page that is being written: the tokens so far, and the elements that are open.
 use Rattle.std.specs.Prelude.{◌≡◌, ℕ, List, [], ◌∷◌, ◌++◌, map, reverse, chars, string_bytes, String, encode_utf8_all}
-use Rattle.html_tokens.specs.Token.{Attribute, Token}
-use Rattle.html_tokens.specs.Token.Token.{Char}
-use Rattle.html_tokens.specs.Tokenizer.{tokens_of_bytes, shown}
-use Rattle.page_writer.specs.Tables.{Name}
+use Rattle.html_tokens.specs.Token.{Token}
+use Rattle.html_tokens.specs.Tokenizer.{tokens_of_bytes}
+use Rattle.html_rules.specs.Tables.{Name}
+use Rattle.html_rules.specs.Tokens.{shown_tokens}
 use Rattle.page_writer.specs.Page.{inside_after, Leads, spell}
 
 -- `opened` has the innermost element first
@@ -31,16 +31,6 @@ added page t = record { written = page.written ++ t ∷ []; opened = inside_afte
 abbrev pub added_all : Page → List Token → Page
 added_all page [] = page
 added_all page (t ∷ ts) = added_all (added page t) ts
-
--- the characters of a text, U+0000 as U+FFFD
-abbrev pub shown_tokens : List ℕ → List Token
-shown_tokens [] = []
-shown_tokens (c ∷ cs) = Char (shown c) ∷ shown_tokens cs
-
--- the attributes with U+0000 in their values as U+FFFD
-abbrev pub shown_values : List Attribute → List Attribute
-shown_values [] = []
-shown_values (a ∷ rest) = record { name = a.name; value = map shown a.value } ∷ shown_values rest
 
 -- the page with a text more
 abbrev pub with_text : Page → List ℕ → Page

@@ -1,17 +1,6 @@
 -- Words for functions that write a page by many calls.
-use Rattle.std.specs.Prelude.{List, ℕ, [], ◌∷◌}
 use Rattle.std.specs.Str.{chars}
-use Rattle.html_tokens.specs.Token.{Token}
-use Rattle.html_tokens.specs.Token.Token.{Start}
-use Rattle.page_writer.specs.Tables.{Name, message_elements, frame_elements, message_voids, frame_voids, text_elements, is_element, is_void, is_text, common_attributes, attribute_rows, link_attributes, frame_attributes, is_attribute_name}
-
--- a start tag without attributes
-abbrev pub plain : Name → Token
-plain name = Start name []
-
--- a start tag with one attribute
-abbrev pub with : Name → Name → List ℕ → Token
-with name attribute value = Start name (record { name = attribute; value = value } ∷ [])
+use Rattle.html_rules.specs.Tables.{message_elements, frame_elements, message_voids, frame_voids, text_elements, is_element, is_void, is_text, common_attributes, attribute_rows, link_attributes, frame_attributes, is_attribute_name}
 
 -- A function that writes elements and attributes by names that stand in its code as texts has the line
 --     #[tactic(auto, unfolding(page_writer::specs::Writing::literals))]

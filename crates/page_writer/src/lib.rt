@@ -7,20 +7,18 @@
 
 pub mod laws;
 mod spelling;
-#[cfg(test)]
-mod tests;
 
 ghost use Rattle.std.specs.Prelude.{◌≡◌, ℕ, ◌<◌, List, [], ◌∷◌, length, chars, encode_utf8_all, OnOk, OnErr, IsTrue};
 ghost use Rattle.html_tokens.specs.Token.Token.{Start, End, Doctype};
 ghost use Rattle.html_tokens.specs.Tokenizer.{tokens_of_bytes};
 ghost use Rattle.page_writer.specs.Page.{spell, takes_tags, MayStart};
-ghost use Rattle.page_writer.specs.Writer.{added, with_text, shown_values, innermost};
-ghost use Rattle.page_writer.specs.Nested.{Nested};
+ghost use Rattle.html_rules.specs.Tokens.{shown_values};
+ghost use Rattle.page_writer.specs.Writer.{added, with_text, innermost};
+ghost use Rattle.html_rules.specs.Nested.{Nested};
 
+use html_rules::is_void;
 use html_tokens::Attributes;
-pub use laws::{
-    allowed_pages_are_known, allowed_pages_have_one_mail, allowed_pages_load, pages_read_as_written,
-};
+pub use laws::pages_read_as_written;
 pub use std::alloc::AllocError as Memory;
 use std::alloc::Global;
 use std::marker::Model;
@@ -88,7 +86,7 @@ impl PageOut {
         ensures ok { OnOk result (self.new ≡ added self.old (Start (chars name.now) (shown_values attributes.now))) }
         ensures err { OnErr result (self.new ≡ self.old) }
     {
-        if spelling::is_void(name) {
+        if is_void(name) {
             spelling::add_start(&mut self.bytes, name, attributes)
         } else {
             spelling::open_element(alloc, &mut self.bytes, &mut self.inside, name, attributes)
@@ -117,23 +115,4 @@ impl PageOut {
         let PageOut { bytes, inside } = self;
         bytes
     }
-}
-
-/// The kinds of value that the attributes of a message have. The tables of the definitions say which attribute has which.
-#[derive(Clone, Copy, Debug, PartialEq, Eq)]
-pub enum Kind {
-    /// An optional sign, 1 to 5 digits, an optional `%`.
-    Number,
-    /// 1 to 32 ASCII letters, digits, `-` and `#`.
-    Word,
-    /// Nothing: the attribute says it all by being there.
-    Flag,
-    /// Any text.
-    Text,
-    /// An address to which a click leads.
-    Link,
-    /// An address from which a picture is loaded.
-    Source,
-    /// Declarations of CSS.
-    Style,
 }

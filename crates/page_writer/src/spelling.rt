@@ -7,7 +7,6 @@ ghost use Rattle.std.specs.Prelude.{◌≡◌, ℕ, ◌<◌, ◌≤◌, List, []
 ghost use Rattle.page_writer.specs.Writer.{names_of};
 ghost use Rattle.html_tokens.specs.Token.Token.{Start, End};
 ghost use Rattle.page_writer.specs.Page.{spell_chars, spell_attributes, spell_token};
-ghost use Rattle.page_writer.specs.Tables.{is_void as is_void_name};
 ghost use Rattle.page_writer.specs.Bytes.{spell_byte, spell_bytes, attribute_bytes, Extends, AreTexts};
 
 use crate::Memory;
@@ -20,21 +19,6 @@ const CHUNK: usize = 64;
 
 /// A text makes room for itself and for so many bytes after it, so that a long one is copied once.
 const ROOM: usize = 4096;
-
-/// Whether an element of this name has no content and no end tag.
-#[tactic(auto, unfolding(crate::specs::Tables::is_void, crate::specs::Tables::message_voids, crate::specs::Tables::frame_voids))]
-pub fn is_void(name: &str) -> bool
-    ensures { result ≡ is_void_name name.now }
-{
-    name == "br"
-        || name == "col"
-        || name == "hr"
-        || name == "img"
-        || name == "wbr"
-        || name == "meta"
-        || name == "link"
-        || name == "input"
-}
 
 fn push(out: &mut Vec<u8>, bytes: &[u8]) -> Result<(), Memory>
     ensures ok { OnOk result (out.new.items ≡ out.old.items ++ bytes.now) }

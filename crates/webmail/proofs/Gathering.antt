@@ -7,12 +7,13 @@ use Rattle.std.proofs.lemmas.Str.{IsUtf8-from_is_utf8, chars-append}
 use Rattle.html_tokens.specs.Token.{Token}
 use Rattle.html_tokens.specs.Token.Token.{Char}
 use Rattle.html_tokens.specs.Tokenizer.{shown}
-use Rattle.page_writer.specs.Writer.{Page, shown_tokens}
+use Rattle.html_rules.specs.Tokens.{shown_tokens}
+use Rattle.page_writer.specs.Writer.{Page}
 use Rattle.std.specs.List.{position_or_len}
 use Rattle.std.specs.Result.{OnOk}
 use Rattle.std.specs.declared.result.Result.{Result}
 use Rattle.std.specs.declared.result.Result.TheVariants.{Ok, Err}
-use Rattle.page_writer.specs.Tables.{Name}
+use Rattle.html_rules.specs.Tables.{Name}
 use Rattle.webmail.specs.Frame.{text, with_tokens}
 use Rattle.webmail.specs.Text.{is_return, line_feeds}
 use Rattle.webmail.proofs.LineFeeds.{line_feeds-clean, line_feeds-nil}

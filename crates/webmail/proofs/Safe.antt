@@ -6,14 +6,14 @@ use Rattle.std.specs.List.{list_all}
 use Rattle.std.specs.Str.{chars}
 use Rattle.html_tokens.specs.Token.{Token}
 use Rattle.html_tokens.specs.Token.Token.{End}
-use Rattle.page_writer.specs.Tables.{message_elements, frame_elements, message_voids, frame_voids, is_message_element, is_element, is_void, frame_attributes, is_frame_attribute}
-use Rattle.page_writer.specs.Writing.{plain, with}
-use Rattle.page_writer.specs.Nested.{open_after, Nested}
-use Rattle.page_writer.specs.Message.{is_message_token}
-use Rattle.page_writer.specs.Frame.{is_frame_token, is_frame, opens_mail, is_local}
-use Rattle.page_writer.specs.Allowed.{IsAllowed, loads}
-use Rattle.page_writer.proofs.Nesting.{open_after-text}
-use Rattle.page_writer.proofs.Parts.{is_frame-append, is_frame-text, is_message-append, is_message-text, loads-append, loads-text}
+use Rattle.html_rules.specs.Tables.{message_elements, frame_elements, message_voids, frame_voids, is_message_element, is_element, is_void, frame_attributes, is_frame_attribute}
+use Rattle.html_rules.specs.Tokens.{plain, with}
+use Rattle.html_rules.specs.Nested.{open_after, Nested}
+use Rattle.html_rules.specs.Message.{is_message_token}
+use Rattle.html_rules.specs.Frame.{is_frame_token, is_frame, opens_mail, is_local}
+use Rattle.html_rules.specs.Allowed.{IsAllowed, loads}
+use Rattle.html_rules.proofs.Nesting.{open_after-text}
+use Rattle.html_rules.proofs.Parts.{is_frame-append, is_frame-text, is_message-append, is_message-text, loads-append, loads-text}
 use Rattle.header_words.specs.Fields.{FieldValue, header_of, first_of}
 use Rattle.header_words.specs.Value.{decoded_of}
 use Rattle.mail_values.specs.Section.{spelling}

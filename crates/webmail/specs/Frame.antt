@@ -3,9 +3,10 @@ use Rattle.std.specs.Prelude.{ℕ, Bool, not, ◌||◌, if◌then◌else◌, Lis
 use Rattle.std.specs.List.{flat_map}
 use Rattle.html_tokens.specs.Token.{Token}
 use Rattle.html_tokens.specs.Token.Token.{Start, End, Char, Doctype}
-use Rattle.page_writer.specs.Tables.{Name}
-use Rattle.page_writer.specs.Writer.{Page, shown_tokens, shown_values}
-use Rattle.page_writer.specs.Writing.{plain, with}
+use Rattle.html_rules.specs.Tables.{Name}
+use Rattle.html_rules.specs.Tokens.{shown_tokens, shown_values}
+use Rattle.page_writer.specs.Writer.{Page}
+use Rattle.html_rules.specs.Tokens.{plain, with}
 use Rattle.mail_values.specs.Section.{spelling}
 use Rattle.header_words.specs.Fields.{FieldValue, first_of}
 use Rattle.header_words.specs.Value.{decoded_of}

@@ -7,8 +7,8 @@ use Rattle.mail_values.specs.Section.{IsSection, spelling}
 use Rattle.mail_io.specs.Stream.{ReadsWhole, WritesSome}
 use Rattle.html_tokens.specs.Tokenizer.{tokens_of_bytes, same}
 use Rattle.page_writer.specs.Page.{spell}
-use Rattle.page_writer.specs.Nested.{Nested}
-use Rattle.page_writer.specs.Allowed.{IsAllowed, loads}
+use Rattle.html_rules.specs.Nested.{Nested}
+use Rattle.html_rules.specs.Allowed.{IsAllowed, loads}
 use Rattle.mime_tree.specs.declared.choice.Shown.{Shown}
 use Rattle.mime_tree.specs.Opening.{tree_of}
 use Rattle.mime_tree.specs.Tree.{PartValue}

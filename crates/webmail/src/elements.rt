@@ -2,9 +2,10 @@
 ghost use Rattle.std.specs.Prelude.{◌≡◌, [], ◌∷◌, chars, OnOk, false};
 ghost use Rattle.html_tokens.specs.Token.Token.{Start};
 ghost use Rattle.page_writer.specs.Page.{MayStart};
-ghost use Rattle.page_writer.specs.Writer.{added, shown_values};
-ghost use Rattle.page_writer.specs.Writing.{plain};
-ghost use Rattle.page_writer.specs.Tables.{is_void};
+ghost use Rattle.html_rules.specs.Tokens.{shown_values};
+ghost use Rattle.page_writer.specs.Writer.{added};
+ghost use Rattle.html_rules.specs.Tokens.{plain};
+ghost use Rattle.html_rules.specs.Tables.{is_void};
 ghost use Rattle.webmail.specs.Frame.{with_tokens, element};
 
 use html_tokens::Attributes;

@@ -2,11 +2,12 @@
 ghost use Rattle.std.specs.Prelude.{◌≡◌, ℕ, ◌<◌, ◌≤◌, List, [], ◌∷◌, ◌++◌, codes, chars, OnOk, false, IfOk, length, Some, IsTrue, string_bytes};
 ghost use Rattle.html_tokens.specs.Token.Token.{Start, End};
 ghost use Rattle.html_tokens.specs.Tokenizer.{tokens_of_bytes};
-ghost use Rattle.page_writer.specs.Nested.{Nested};
+ghost use Rattle.html_rules.specs.Nested.{Nested};
 ghost use Rattle.page_writer.specs.Page.{MayStart, takes_tags};
-ghost use Rattle.page_writer.specs.Writer.{added, shown_values};
-ghost use Rattle.page_writer.specs.Writing.{plain, with};
-ghost use Rattle.page_writer.specs.Tables.{is_void};
+ghost use Rattle.html_rules.specs.Tokens.{shown_values};
+ghost use Rattle.page_writer.specs.Writer.{added};
+ghost use Rattle.html_rules.specs.Tokens.{plain, with};
+ghost use Rattle.html_rules.specs.Tables.{is_void};
 ghost use Rattle.header_words.specs.Fields.{header_of};
 ghost use Rattle.header_words.specs.Value.{decoded_of};
 ghost use Rattle.webmail.specs.Frame.{with_tokens, element, head_start, document_start, document_head, document_end, style_link, field_row, row_of, field_rows, title_of, filled, message_head, frame_before, frame_after};

@@ -1,6 +1,7 @@
 use Rattle.std.proofs.Common.{is_ok, chars, encode_utf8_all}
 use Rattle.page_writer.specs.Page.{spell_chars}
-use Rattle.page_writer.specs.Writer.{names_of, shown_tokens}
+use Rattle.html_rules.specs.Tokens.{shown_tokens}
+use Rattle.page_writer.specs.Writer.{names_of}
 use Rattle.page_writer.proofs.Held.{Leaves, leaves, on_ok, text_adds}
 use Rattle.page_writer.proofs.PageOut.chars.Goals as goal
 

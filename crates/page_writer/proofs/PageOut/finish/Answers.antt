@@ -1,5 +1,5 @@
 use Rattle.std.proofs.Common.{[], List, ◌∙◌, ap, subst, Some}
-use Rattle.page_writer.specs.Tables.{Name}
+use Rattle.html_rules.specs.Tables.{Name}
 use Rattle.page_writer.specs.Page.{Leads}
 use Rattle.page_writer.specs.Writer.{Page}
 use Rattle.page_writer.proofs.Nesting.{open_after-led}

@@ -5,8 +5,8 @@ use Rattle.html_tokens.specs.Characters.{null}
 use Rattle.html_tokens.specs.Token.{Attribute, Token}
 use Rattle.html_tokens.specs.Token.Token.{Start, End, Char, Comment, Doctype}
 use Rattle.html_tokens.specs.Tokenizer.{same, has_name}
-use Rattle.page_writer.specs.Tables.{Name, is_message_element, is_void, is_listed_attribute}
-use Rattle.page_writer.specs.Values.{fits_attribute}
+use Rattle.html_rules.specs.Tables.{Name, is_message_element, is_void, is_listed_attribute}
+use Rattle.html_rules.specs.Values.{fits_attribute}
 
 -- the mark of a link that opens a page apart, which learns nothing of the page that it was opened from
 abbrev pub is_link_mark : Attribute → Bool

@@ -2,8 +2,8 @@
 use Rattle.std.specs.Prelude.{ℕ, Bool, true, false, ◌&&◌, ◌||◌, ◌==◌, if◌then◌else◌, Option, Some, None, List, [], ◌∷◌, ◌++◌, codes}
 use Rattle.std.specs.List.{list_any, flat_map}
 use Rattle.html_tokens.specs.Tokenizer.{is_among}
-use Rattle.page_writer.specs.declared.Kind.{Kind}
-use Rattle.page_writer.specs.declared.Kind.TheVariants.{Number, Word, Flag, Text, Link, Source, Style}
+use Rattle.html_rules.specs.declared.Kind.{Kind}
+use Rattle.html_rules.specs.declared.Kind.TheVariants.{Number, Word, Flag, Text, Link, Source, Style}
 
 -- the name of an element or an attribute, in characters
 abbrev pub Name : Type 0

@@ -6,13 +6,13 @@ use Rattle.std.specs.List.{list_all, AllByRecursion}
 use Rattle.html_tokens.specs.Token.{Attribute, Token}
 use Rattle.html_tokens.specs.Token.Token.{Start, End, Char, Comment, Doctype}
 use Rattle.html_tokens.specs.Tokenizer.{same, shown}
-use Rattle.page_writer.specs.Tables.{Name, is_message_element, message_elements, is_frame_attribute, frame_attributes, is_listed_attribute, kind_of, kind_rows}
-use Rattle.page_writer.specs.Values.{is_source, fits_attribute, fits}
-use Rattle.page_writer.specs.Writer.{shown_tokens}
-use Rattle.page_writer.specs.Message.{is_message_token, is_message, is_message_attribute, is_marked}
-use Rattle.page_writer.specs.Frame.{is_frame_token, is_frame_pair, fits_frame, is_frame, opens_mail, style_sheet}
-use Rattle.page_writer.specs.Allowed.{HasMail, IsAllowed, is_loading, loaded, loads, may_load}
-use Rattle.page_writer.proofs.Facts.{and_true, same-true, among_all}
+use Rattle.html_rules.specs.Tables.{Name, is_message_element, message_elements, is_frame_attribute, frame_attributes, is_listed_attribute, kind_of, kind_rows}
+use Rattle.html_rules.specs.Values.{is_source, fits_attribute, fits}
+use Rattle.html_rules.specs.Tokens.{shown_tokens}
+use Rattle.html_rules.specs.Message.{is_message_token, is_message, is_message_attribute, is_marked}
+use Rattle.html_rules.specs.Frame.{is_frame_token, is_frame_pair, fits_frame, is_frame, opens_mail, style_sheet}
+use Rattle.html_rules.specs.Allowed.{HasMail, IsAllowed, is_loading, loaded, loads, may_load}
+use Rattle.html_rules.proofs.Facts.{and_true, same-true, among_all}
 
 -- ---- both, of each
 

@@ -5,12 +5,12 @@ use Rattle.std.specs.List.{list_all, list_any, count_by}
 use Rattle.html_tokens.specs.Token.{Attribute, Token}
 use Rattle.html_tokens.specs.Token.Token.{Start, End, Char, Comment, Doctype}
 use Rattle.html_tokens.specs.Tokenizer.{same}
-use Rattle.page_writer.specs.Tables.{Name, is_element, message_elements, frame_elements, is_message_element, is_listed_attribute, common_attributes, attribute_rows}
-use Rattle.page_writer.specs.Message.{is_message_token, is_message, is_message_attribute, is_marked}
-use Rattle.page_writer.specs.Frame.{is_frame_token, is_frame, opens_mail, is_of_class}
-use Rattle.page_writer.specs.Allowed.{IsAllowed}
-use Rattle.page_writer.proofs.Facts.{and_true, no_of, same-true}
-use Rattle.page_writer.proofs.Parts.{all_both, both_true, or_left, or_right}
+use Rattle.html_rules.specs.Tables.{Name, is_element, message_elements, frame_elements, is_message_element, is_listed_attribute, common_attributes, attribute_rows}
+use Rattle.html_rules.specs.Message.{is_message_token, is_message, is_message_attribute, is_marked}
+use Rattle.html_rules.specs.Frame.{is_frame_token, is_frame, opens_mail, is_of_class}
+use Rattle.html_rules.specs.Allowed.{IsAllowed}
+use Rattle.html_rules.proofs.Facts.{and_true, no_of, same-true}
+use Rattle.html_rules.proofs.Parts.{all_both, both_true, or_left, or_right}
 
 -- ---- each token is known
 

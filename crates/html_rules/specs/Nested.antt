@@ -3,7 +3,7 @@ use Rattle.std.specs.Prelude.{◌≡◌, List, [], ◌∷◌, Option, Some, None
 use Rattle.html_tokens.specs.Token.{Token}
 use Rattle.html_tokens.specs.Token.Token.{Start, End}
 use Rattle.html_tokens.specs.Tokenizer.{same}
-use Rattle.page_writer.specs.Tables.{Name, is_void}
+use Rattle.html_rules.specs.Tables.{Name, is_void}
 
 -- The elements that are open after the tokens, the innermost first, where these were open before: a start tag opens its
 -- element unless that is void, and an end tag closes the innermost one. None where an end tag has another name.

@@ -4,11 +4,11 @@ use Rattle.std.specs.List.{list_all, flat_map, count_by, AllByRecursion}
 use Rattle.html_tokens.specs.Token.{Attribute, Token}
 use Rattle.html_tokens.specs.Token.Token.{Start, End}
 use Rattle.html_tokens.specs.Tokenizer.{same}
-use Rattle.page_writer.specs.Tables.{Name}
-use Rattle.page_writer.specs.Values.{is_source}
-use Rattle.page_writer.specs.Message.{is_message_token, is_message}
-use Rattle.page_writer.specs.Frame.{is_frame_token, is_frame, opens_mail, style_sheet}
-use Rattle.page_writer.specs.Nested.{Nested}
+use Rattle.html_rules.specs.Tables.{Name}
+use Rattle.html_rules.specs.Values.{is_source}
+use Rattle.html_rules.specs.Message.{is_message_token, is_message}
+use Rattle.html_rules.specs.Frame.{is_frame_token, is_frame, opens_mail, style_sheet}
+use Rattle.html_rules.specs.Nested.{Nested}
 
 -- a page with a message in the one `div` of the class `mail`, and the frame around it
 pub record HasMail (page : List Token) (images : Bool) (own : List ℕ → Bool) : Type 0 where

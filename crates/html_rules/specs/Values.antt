@@ -3,9 +3,9 @@ use Rattle.std.specs.Prelude.{ℕ, zero, suc, Bool, true, false, not, ◌&&◌, 
 use Rattle.std.specs.List.{list_all}
 use Rattle.html_tokens.specs.Characters.{null, space, hyphen, number_sign, is_between, is_digit, is_letter}
 use Rattle.html_tokens.specs.References.{begins}
-use Rattle.page_writer.specs.Tables.{Name, kind_of}
-use Rattle.page_writer.specs.declared.Kind.{Kind}
-use Rattle.page_writer.specs.declared.Kind.TheVariants.{Number, Word, Flag, Text, Link, Source, Style}
+use Rattle.html_rules.specs.Tables.{Name, kind_of}
+use Rattle.html_rules.specs.declared.Kind.{Kind}
+use Rattle.html_rules.specs.declared.Kind.TheVariants.{Number, Word, Flag, Text, Link, Source, Style}
 
 -- ---- numbers and words
 

@@ -5,7 +5,7 @@ use Rattle.html_tokens.specs.Characters.{tabulation, line_feed, carriage_return,
 use Rattle.html_tokens.specs.Token.{Attribute, Token}
 use Rattle.html_tokens.specs.Token.Token.{Start, End, Char, Comment, Doctype}
 use Rattle.html_tokens.specs.Tokenizer.{same, is_among}
-use Rattle.page_writer.specs.Tables.{Name, words, is_element, is_frame_attribute}
+use Rattle.html_rules.specs.Tables.{Name, words, is_element, is_frame_attribute}
 
 abbrev pub reverse_solidus : ℕ
 reverse_solidus = 0x5C

@@ -1,38 +1,12 @@
--- Facts about names and characters.
-use Rattle.std.proofs.Common.{◌≡◌, ℕ, ◌<◌, Bool, true, false, not, ◌&&◌, ◌||◌, ◌==◌, eqb, inl, inr, List, [], ◌∷◌, ◌++◌, IsTrue, refl, sym, arith, eqb-true, eq-eqb, ne_eqb}
+-- Names and characters as the tokenizer reads them.
+use Rattle.std.proofs.Common.{◌≡◌, ℕ, ◌<◌, Bool, true, false, ◌&&◌, ◌||◌, eqb, inl, inr, List, [], ◌∷◌, ◌++◌, refl, arith, ne_eqb}
 use Rattle.std.proofs.lemmas.Bool.{cases_eq}
 use Rattle.std.proofs.lemmas.Bool.Decides.{nat_tests}
-use Rattle.std.specs.List.{list_all}
+use Rattle.std.specs.List.{list_all, flat_map}
 use Rattle.html_tokens.specs.References.{is_between, is_letter, is_digit}
-use Rattle.html_tokens.specs.Tokenizer.{is_among, same, is_space, lower}
-use Rattle.page_writer.specs.Tables.{is_element, message_elements, frame_elements, is_attribute_name, common_attributes, attribute_rows, link_attributes, frame_attributes}
-use Rattle.std.specs.List.{flat_map}
-
-pub and_true : (a b : Bool) → (a && b) ≡ true → (a ≡ true) × (b ≡ true)
-and_true true b e = (refl, e)
-and_true false b e = absurd cc
-
-pub or_false : (a b : Bool) → (a || b) ≡ false → (a ≡ false) × (b ≡ false)
-or_false true b e = absurd cc
-or_false false b e = (refl, e)
-
-pub no_of : (b : Bool) → IsTrue (not b) → b ≡ false
-no_of true h = absurd cc
-no_of false h = refl
-
-pub same-true : (xs ys : List ℕ) → same xs ys ≡ true → xs ≡ ys
-same-true [] [] e = refl
-same-true [] (y ∷ ys) e = absurd cc
-same-true (x ∷ xs) [] e = absurd cc
-same-true (x ∷ xs) (y ∷ ys) e =
-    let both = and_true (y == x) (same xs ys) e in
-    let heads : y ≡ x = eqb-true y x both.0 in
-    let tails : xs ≡ ys = same-true xs ys both.1 in
-    cc
-
-pub same-refl : (cs : List ℕ) → same cs cs ≡ true
-same-refl [] = refl
-same-refl (c ∷ cs) = rw (eq-eqb c c refl, same-refl cs) refl
+use Rattle.html_tokens.specs.Tokenizer.{is_space, lower}
+use Rattle.html_rules.specs.Tables.{is_element, message_elements, frame_elements, is_attribute_name, common_attributes, attribute_rows, link_attributes, frame_attributes}
+use Rattle.html_rules.proofs.Facts.{among_all}
 
 abbrev pub is_name_char : ℕ → Bool
 is_name_char c = is_digit c || is_between 97 122 c
@@ -58,16 +32,6 @@ pub record Letter (c : ℕ) : Type 0 where
 
 pub letter_char : (c : ℕ) → is_between 97 122 c ≡ true → Letter c
 letter_char c e = record { in_name = name_char c (grind (arith, nat_tests)); letter = grind (arith, nat_tests); bang = grind (arith, nat_tests) }
-
--- what a test of each name says of one of them
-pub among_all : (p : List ℕ → Bool) (names : List (List ℕ)) (name : List ℕ) → list_all p names ≡ true → is_among names name ≡ true → p name ≡ true
-among_all p [] name all among = absurd cc
-among_all p (n ∷ names) name all among =
-    let both = and_true (p n) (list_all p names) all in
-    elim (same n name) as (λ b. same n name ≡ b → (b || is_among names name) ≡ true → p name ≡ true) [
-      | true ↦ λ e h. rw (sym (same-true n name e)) both.0
-      | false ↦ λ e h. among_all p names name both.1 h
-    ] refl among
 
 abbrev pub name_chars : List ℕ → Bool
 name_chars cs = list_all is_name_char cs
