@@ -4,3 +4,4 @@ pub mod Parts
 pub mod Mail
 mod Examples
 mod TextPage
+mod Guards

@@ -6,8 +6,8 @@ use Rattle.html_tokens.specs.Token.{Attribute, Token}
 use Rattle.html_tokens.specs.Token.Token.{Start, End, Char, Comment, Doctype}
 use Rattle.html_tokens.specs.Tokenizer.{same}
 use Rattle.html_rules.specs.Tables.{Name, is_element, message_elements, frame_elements, is_message_element, is_listed_attribute, common_attributes, attribute_rows}
-use Rattle.html_rules.specs.Message.{is_message_token, is_message, is_message_attribute, is_marked}
-use Rattle.html_rules.specs.Frame.{is_frame_token, is_frame, opens_mail, is_of_class}
+use Rattle.html_rules.specs.MessageTokens.{is_message_token, is_message, is_message_attribute, are_links_protected}
+use Rattle.html_rules.specs.FrameTokens.{is_frame_token, is_frame, opens_mail, has_class}
 use Rattle.html_rules.specs.Allowed.{IsAllowed}
 use Rattle.html_rules.proofs.Facts.{and_true, no_of, same-true}
 use Rattle.html_rules.proofs.Parts.{all_both, both_true, or_left, or_right}
@@ -44,7 +44,7 @@ allowed_known page images own (inr h) =
     let closing : list_all p (End (codes "div") ∷ h.after) ≡ true = both_true (p (End (codes "div"))) (list_all p h.after) (end_known images own) (known_frame images own h.after h.after_is_frame) in
     let inside = all_both p h.message (End (codes "div") ∷ h.after) (known_message images own h.message h.is_a_message) closing in
     let from_mail : list_all p (h.mail ∷ h.message ++ (End (codes "div") ∷ h.after)) ≡ true = both_true (p h.mail) (list_all p (h.message ++ (End (codes "div") ∷ h.after))) (or_left (is_frame_token h.mail) (is_message_token images own h.mail) opens.0) inside in
-    ap (list_all p) h.is ∙ all_both p h.before (h.mail ∷ h.message ++ (End (codes "div") ∷ h.after)) (known_frame images own h.before h.before_is_frame) from_mail
+    ap (list_all p) h.equals ∙ all_both p h.before (h.mail ∷ h.message ++ (End (codes "div") ∷ h.after)) (known_frame images own h.before h.before_is_frame) from_mail
 
 -- ---- a message opens no message
 
@@ -53,9 +53,9 @@ unfolding is_listed_attribute common_attributes attribute_rows
 class_not_listed images own name value e =
     subst (λ (n : List ℕ). is_message_attribute images own (codes "div") (record { name = n; value = value }) ≡ false) e refl
 
-no_class : (images : Bool) (own : List ℕ → Bool) (class : List ℕ) (a : Attribute) → is_message_attribute images own (codes "div") a ≡ true → is_of_class class a ≡ false
+no_class : (images : Bool) (own : List ℕ → Bool) (class : List ℕ) (a : Attribute) → is_message_attribute images own (codes "div") a ≡ true → has_class class a ≡ false
 no_class images own class a h =
-    elim (is_of_class class a) as (λ b. is_of_class class a ≡ b → b ≡ false) [
+    elim (has_class class a) as (λ b. has_class class a ≡ b → b ≡ false) [
       | true ↦ λ e.
           let named = (and_true (same (codes "class") a.name) _ e).0 in
           let k : true ≡ false = sym h ∙ class_not_listed images own a.name a.value (same-true (codes "class") a.name named) in
@@ -63,19 +63,19 @@ no_class images own class a h =
       | false ↦ λ e. refl
     ] refl
 
-no_classes : (images : Bool) (own : List ℕ → Bool) (class : List ℕ) (attributes : List Attribute) → list_all (is_message_attribute images own (codes "div")) attributes ≡ true → list_any (is_of_class class) attributes ≡ false
+no_classes : (images : Bool) (own : List ℕ → Bool) (class : List ℕ) (attributes : List Attribute) → list_all (is_message_attribute images own (codes "div")) attributes ≡ true → list_any (has_class class) attributes ≡ false
 no_classes images own class [] h = refl
 no_classes images own class (a ∷ rest) h =
     let both = and_true (is_message_attribute images own (codes "div") a) (list_all (is_message_attribute images own (codes "div")) rest) h in
     rw (no_class images own class a both.0) (no_classes images own class rest both.1)
 
-div_opens_none : (images : Bool) (own : List ℕ → Bool) (name : Name) (attributes : List Attribute) → codes "div" ≡ name → list_all (is_message_attribute images own name) attributes ≡ true → list_any (is_of_class (codes "mail")) attributes ≡ false
+div_opens_none : (images : Bool) (own : List ℕ → Bool) (name : Name) (attributes : List Attribute) → codes "div" ≡ name → list_all (is_message_attribute images own name) attributes ≡ true → list_any (has_class (codes "mail")) attributes ≡ false
 div_opens_none images own name attributes e h =
     no_classes images own (codes "mail") attributes (subst (λ (n : List ℕ). list_all (is_message_attribute images own n) attributes ≡ true) (sym e) h)
 
-start_opens_none : (images : Bool) (own : List ℕ → Bool) (name : Name) (attributes : List Attribute) → list_all (is_message_attribute images own name) attributes ≡ true → (same (codes "div") name && list_any (is_of_class (codes "mail")) attributes) ≡ false
+start_opens_none : (images : Bool) (own : List ℕ → Bool) (name : Name) (attributes : List Attribute) → list_all (is_message_attribute images own name) attributes ≡ true → (same (codes "div") name && list_any (has_class (codes "mail")) attributes) ≡ false
 start_opens_none images own name attributes h =
-    elim (same (codes "div") name) as (λ b. same (codes "div") name ≡ b → (b && list_any (is_of_class (codes "mail")) attributes) ≡ false) [
+    elim (same (codes "div") name) as (λ b. same (codes "div") name ≡ b → (b && list_any (has_class (codes "mail")) attributes) ≡ false) [
       | true ↦ λ e. div_opens_none images own name attributes (same-true (codes "div") name e) h
       | false ↦ λ e. refl
     ] refl
@@ -83,7 +83,7 @@ start_opens_none images own name attributes h =
 message_token_opens_none : (images : Bool) (own : List ℕ → Bool) (t : Token) → is_message_token images own t ≡ true → opens_mail t ≡ false
 unfolding is_message_token opens_mail
 message_token_opens_none images own (Start name attributes) h =
-    let most = and_true (is_message_element name && list_all (is_message_attribute images own name) attributes) (is_marked attributes) h in
+    let most = and_true (is_message_element name && list_all (is_message_attribute images own name) attributes) (are_links_protected attributes) h in
     start_opens_none images own name attributes (and_true (is_message_element name) (list_all (is_message_attribute images own name) attributes) most.0).1
 message_token_opens_none images own (End name) h = refl
 message_token_opens_none images own (Char c) h = refl
@@ -125,7 +125,7 @@ pub one_mail : (page : List Token) (images : Bool) (own : List ℕ → Bool) →
 one_mail page images own (inl h) = let none = none_in_frame page h in omega (arith, none)
 one_mail page images own (inr h) =
     let rest = End (codes "div") ∷ h.after in
-    let all : count_by opens_mail page ≡ count_by opens_mail h.before + count_by opens_mail (h.mail ∷ h.message ++ rest) = ap (count_by opens_mail) h.is ∙ count-append h.before (h.mail ∷ h.message ++ rest) in
+    let all : count_by opens_mail page ≡ count_by opens_mail h.before + count_by opens_mail (h.mail ∷ h.message ++ rest) = ap (count_by opens_mail) h.equals ∙ count-append h.before (h.mail ∷ h.message ++ rest) in
     let before = none_in_frame h.before h.before_is_frame in
     let mail = count_one h.mail (h.message ++ rest) in
     let inside = count-append h.message rest in

@@ -6,9 +6,9 @@ use Rattle.html_tokens.specs.Token.Token.{Start, End}
 use Rattle.html_tokens.specs.Tokenizer.{same}
 use Rattle.html_rules.specs.Tables.{Name}
 use Rattle.html_rules.specs.Values.{is_source}
-use Rattle.html_rules.specs.Message.{is_message_token, is_message}
-use Rattle.html_rules.specs.Frame.{is_frame_token, is_frame, opens_mail, style_sheet}
-use Rattle.html_rules.specs.Nested.{Nested}
+use Rattle.html_rules.specs.MessageTokens.{is_message_token, is_message}
+use Rattle.html_rules.specs.FrameTokens.{is_frame_token, is_frame, opens_mail, style_sheet}
+use Rattle.html_rules.specs.Nesting.{IsNested}
 
 -- a page with a message in the one `div` of the class `mail`, and the frame around it
 pub record HasMail (page : List Token) (images : Bool) (own : List ℕ → Bool) : Type 0 where
@@ -16,11 +16,11 @@ pub record HasMail (page : List Token) (images : Bool) (own : List ℕ → Bool)
   pub mail : Token
   pub message : List Token
   pub after : List Token
-  pub is : page ≡ before ++ (mail ∷ message ++ (End (codes "div") ∷ after))
+  pub equals : page ≡ before ++ (mail ∷ message ++ (End (codes "div") ∷ after))
   pub before_is_frame : IsTrue (is_frame before)
   pub opens : IsTrue (is_frame_token mail && opens_mail mail)
   pub is_a_message : IsTrue (is_message images own message)
-  pub is_nested : Nested message
+  pub is_nested : IsNested message
   pub after_is_frame : IsTrue (is_frame after)
 
 -- A page is the frame alone, or the frame with a message in it. `images` says whether pictures of the web were asked for,
@@ -31,16 +31,16 @@ IsAllowed page images own = IsTrue (is_frame page) ⊎ HasMail page images own
 -- ---- what a page loads by itself
 
 -- a picture, or what a `link` names
-abbrev pub is_loading : Name → Attribute → Bool
-is_loading element a = same (codes "src") a.name || (same (codes "link") element && same (codes "href") a.name)
+abbrev pub is_loading_attribute : Name → Attribute → Bool
+is_loading_attribute element a = same (codes "src") a.name || (same (codes "link") element && same (codes "href") a.name)
 
-abbrev pub loaded : Token → List (List ℕ)
-loaded (Start name attributes) = flat_map (λ a. if is_loading name a then a.value ∷ [] else []) attributes
-loaded _ = []
+abbrev pub addresses_loaded_by : Token → List (List ℕ)
+addresses_loaded_by (Start name attributes) = flat_map (λ a. if is_loading_attribute name a then a.value ∷ [] else []) attributes
+addresses_loaded_by _ = []
 
 -- the addresses from which a browser loads when it shows the page, without a click
 unfoldable pub loads : List Token → List (List ℕ)
-loads tokens = flat_map loaded tokens
+loads tokens = flat_map addresses_loaded_by tokens
 
 -- the addresses that an allowed page may load
 abbrev pub may_load : Bool → (List ℕ → Bool) → List ℕ → Bool

@@ -2,22 +2,22 @@
 use Rattle.std.specs.Prelude.{ℕ, Bool, true, false, ◌&&◌, ◌||◌, ◌==◌, if◌then◌else◌, Option, Some, None, List, [], ◌∷◌, ◌++◌, codes}
 use Rattle.std.specs.List.{list_any, flat_map}
 use Rattle.html_tokens.specs.Tokenizer.{is_among}
-use Rattle.html_rules.specs.declared.Kind.{Kind}
-use Rattle.html_rules.specs.declared.Kind.TheVariants.{Number, Word, Flag, Text, Link, Source, Style}
+use Rattle.html_rules.specs.declared.ValueKind.{ValueKind}
+use Rattle.html_rules.specs.declared.ValueKind.TheVariants.{Number, Word, Flag, Text, Link, Source, Style}
 
 -- the name of an element or an attribute, in characters
 abbrev pub Name : Type 0
 Name = List ℕ
 
-abbrev pub letter_on : Bool → ℕ → List Name → List Name
-letter_on true c words = [] ∷ words
-letter_on false c [] = (c ∷ []) ∷ []
-letter_on false c (word ∷ words) = (c ∷ word) ∷ words
+abbrev pub add_letter : Bool → ℕ → List Name → List Name
+add_letter true c words = [] ∷ words
+add_letter false c [] = (c ∷ []) ∷ []
+add_letter false c (word ∷ words) = (c ∷ word) ∷ words
 
 -- the words of a text in which a space stands between two
 abbrev pub words : List ℕ → List Name
 words [] = [] ∷ []
-words (c ∷ cs) = letter_on (c == 32) c (words cs)
+words (c ∷ cs) = add_letter (c == 32) c (words cs)
 
 -- ---- elements
 
@@ -30,15 +30,15 @@ unfoldable pub frame_elements : List Name
 frame_elements = words (codes "html head meta title link body form input textarea button")
 
 -- the elements that have no content and no end tag (HTML Standard, 13.1.2, void elements)
-unfoldable pub message_voids : List Name
-message_voids = words (codes "br col hr img wbr")
+unfoldable pub message_void_elements : List Name
+message_void_elements = words (codes "br col hr img wbr")
 
-unfoldable pub frame_voids : List Name
-frame_voids = words (codes "meta link input")
+unfoldable pub frame_void_elements : List Name
+frame_void_elements = words (codes "meta link input")
 
 -- the elements whose content is text alone (HTML Standard, 13.1.2, escapable raw text elements)
-unfoldable pub text_elements : List Name
-text_elements = words (codes "title textarea")
+unfoldable pub text_only_elements : List Name
+text_only_elements = words (codes "title textarea")
 
 -- the elements that are left out of a message together with their text
 unfoldable pub dropped_elements : List Name
@@ -51,22 +51,22 @@ unfoldable pub is_element : Name → Bool
 is_element name = is_among (message_elements ++ frame_elements) name
 
 unfoldable pub is_void : Name → Bool
-is_void name = is_among (message_voids ++ frame_voids) name
+is_void name = is_among (message_void_elements ++ frame_void_elements) name
 
-unfoldable pub is_text : Name → Bool
-is_text name = is_among text_elements name
+unfoldable pub is_text_only : Name → Bool
+is_text_only name = is_among text_only_elements name
 
-unfoldable pub is_dropped : Name → Bool
-is_dropped name = is_among dropped_elements name
+unfoldable pub is_dropped_element : Name → Bool
+is_dropped_element name = is_among dropped_elements name
 
 -- ---- attributes
 
 -- elements, and the attributes that they may have in a message
-pub record Row : Type 0 where
+pub record AttributeRow : Type 0 where
   pub elements : List Name
   pub attributes : List Name
 
-abbrev pub row : List ℕ → List ℕ → Row
+abbrev pub row : List ℕ → List ℕ → AttributeRow
 row elements attributes = record { elements = words elements; attributes = words attributes }
 
 -- the attributes that every element may have in a message
@@ -74,7 +74,7 @@ unfoldable pub common_attributes : List Name
 common_attributes = words (codes "dir lang style title")
 
 -- and those that these elements may have beside them
-unfoldable pub attribute_rows : List Row
+unfoldable pub attribute_rows : List AttributeRow
 attribute_rows =
     row (codes "a") (codes "href")
     ∷ row (codes "img") (codes "src alt width height align border hspace vspace")
@@ -105,8 +105,8 @@ is_listed_attribute element name =
     is_among common_attributes name
     || list_any (λ r. is_among r.elements element && is_among r.attributes name) attribute_rows
 
-unfoldable pub is_frame_attribute : Name → Bool
-is_frame_attribute name = is_among frame_attributes name
+unfoldable pub is_frame_attribute_name : Name → Bool
+is_frame_attribute_name name = is_among frame_attributes name
 
 -- the name of some attribute, in a message or in a frame
 unfoldable pub is_attribute_name : Name → Bool
@@ -115,28 +115,28 @@ is_attribute_name name =
 
 -- ---- kinds of value
 
-pub record KindRow : Type 0 where
-  pub kind : Kind
+pub record ValueKindRow : Type 0 where
+  pub kind : ValueKind
   pub attributes : List Name
 
-abbrev pub kind_row : Kind → List ℕ → KindRow
-kind_row kind attributes = record { kind = kind; attributes = words attributes }
+abbrev pub value_kind_row : ValueKind → List ℕ → ValueKindRow
+value_kind_row kind attributes = record { kind = kind; attributes = words attributes }
 
 -- the kind of the values of each attribute of a message
-unfoldable pub kind_rows : List KindRow
-kind_rows =
-    kind_row Number (codes "width height border cellpadding cellspacing hspace vspace size colspan rowspan span start value")
-    ∷ kind_row Word (codes "align valign bgcolor color clear type dir lang")
-    ∷ kind_row Flag (codes "nowrap noshade")
-    ∷ kind_row Text (codes "title alt face")
-    ∷ kind_row Link (codes "href")
-    ∷ kind_row Source (codes "src")
-    ∷ kind_row Style (codes "style")
+unfoldable pub value_kind_rows : List ValueKindRow
+value_kind_rows =
+    value_kind_row Number (codes "width height border cellpadding cellspacing hspace vspace size colspan rowspan span start value")
+    ∷ value_kind_row Word (codes "align valign bgcolor color clear type dir lang")
+    ∷ value_kind_row Flag (codes "nowrap noshade")
+    ∷ value_kind_row Text (codes "title alt face")
+    ∷ value_kind_row Link (codes "href")
+    ∷ value_kind_row Source (codes "src")
+    ∷ value_kind_row Style (codes "style")
     ∷ []
 
-abbrev pub kind_in : List KindRow → Name → Option Kind
-kind_in [] name = None
-kind_in (row ∷ rows) name = if is_among row.attributes name then Some row.kind else kind_in rows name
+abbrev pub kind_among : List ValueKindRow → Name → Option ValueKind
+kind_among [] name = None
+kind_among (row ∷ rows) name = if is_among row.attributes name then Some row.kind else kind_among rows name
 
-unfoldable pub kind_of : Name → Option Kind
-kind_of name = kind_in kind_rows name
+unfoldable pub kind_of : Name → Option ValueKind
+kind_of name = kind_among value_kind_rows name

@@ -6,19 +6,19 @@ use Rattle.html_tokens.specs.Tokenizer.{shown}
 use Rattle.html_rules.specs.Tables.{Name}
 
 -- a start tag without attributes
-abbrev pub plain : Name → Token
-plain name = Start name []
+abbrev pub start_tag : Name → Token
+start_tag name = Start name []
 
 -- a start tag with one attribute
-abbrev pub with : Name → Name → List ℕ → Token
-with name attribute value = Start name (record { name = attribute; value = value } ∷ [])
+abbrev pub start_tag_with : Name → Name → List ℕ → Token
+start_tag_with name attribute value = Start name (record { name = attribute; value = value } ∷ [])
 
 -- the characters of a text, U+0000 as U+FFFD
-abbrev pub shown_tokens : List ℕ → List Token
-shown_tokens [] = []
-shown_tokens (c ∷ cs) = Char (shown c) ∷ shown_tokens cs
+abbrev pub text_tokens : List ℕ → List Token
+text_tokens [] = []
+text_tokens (c ∷ cs) = Char (shown c) ∷ text_tokens cs
 
 -- the attributes with U+0000 in their values as U+FFFD
-abbrev pub shown_values : List Attribute → List Attribute
-shown_values [] = []
-shown_values (a ∷ rest) = record { name = a.name; value = map shown a.value } ∷ shown_values rest
+abbrev pub replace_nulls : List Attribute → List Attribute
+replace_nulls [] = []
+replace_nulls (a ∷ rest) = record { name = a.name; value = map shown a.value } ∷ replace_nulls rest

@@ -4,8 +4,8 @@ use Rattle.std.specs.List.{list_all}
 use Rattle.html_tokens.specs.Characters.{null, space, hyphen, number_sign, is_between, is_digit, is_letter}
 use Rattle.html_tokens.specs.References.{begins}
 use Rattle.html_rules.specs.Tables.{Name, kind_of}
-use Rattle.html_rules.specs.declared.Kind.{Kind}
-use Rattle.html_rules.specs.declared.Kind.TheVariants.{Number, Word, Flag, Text, Link, Source, Style}
+use Rattle.html_rules.specs.declared.ValueKind.{ValueKind}
+use Rattle.html_rules.specs.declared.ValueKind.TheVariants.{Number, Word, Flag, Text, Link, Source, Style}
 
 -- ---- numbers and words
 
@@ -15,25 +15,25 @@ percent_sign = 0x25
 abbrev pub plus_sign : ℕ
 plus_sign = 0x2B
 
-abbrev pub is_nothing : List ℕ → Bool
-is_nothing [] = true
-is_nothing (c ∷ cs) = false
+abbrev pub is_empty : List ℕ → Bool
+is_empty [] = true
+is_empty (c ∷ cs) = false
 
 -- up to so many digits, and an optional `%`
-abbrev pub are_digits : ℕ → List ℕ → Bool
-are_digits n [] = true
-are_digits zero (c ∷ cs) = c == percent_sign && is_nothing cs
-are_digits (suc n) (c ∷ cs) = (is_digit c && are_digits n cs) || (c == percent_sign && is_nothing cs)
+abbrev pub has_at_most_digits : ℕ → List ℕ → Bool
+has_at_most_digits n [] = true
+has_at_most_digits zero (c ∷ cs) = c == percent_sign && is_empty cs
+has_at_most_digits (suc n) (c ∷ cs) = (is_digit c && has_at_most_digits n cs) || (c == percent_sign && is_empty cs)
 
 -- 1 to 5 digits, and an optional `%`
-abbrev pub some_digits : List ℕ → Bool
-some_digits [] = false
-some_digits (c ∷ cs) = is_digit c && are_digits 4 cs
+abbrev pub is_digits_percent : List ℕ → Bool
+is_digits_percent [] = false
+is_digits_percent (c ∷ cs) = is_digit c && has_at_most_digits 4 cs
 
 -- an optional `+` or `-`, 1 to 5 digits, an optional `%`
 unfoldable pub is_number : List ℕ → Bool
 is_number [] = false
-is_number (c ∷ cs) = if c == plus_sign || c == hyphen then some_digits cs else some_digits (c ∷ cs)
+is_number (c ∷ cs) = if c == plus_sign || c == hyphen then is_digits_percent cs else is_digits_percent (c ∷ cs)
 
 abbrev pub is_word_char : ℕ → Bool
 is_word_char c = is_letter c || is_digit c || c == hyphen || c == number_sign
@@ -63,19 +63,19 @@ is_source images own value = own value || (images && is_remote value)
 -- ---- kinds
 
 -- a value of the kind. No value of the kind Style fits: a message has no `style` as long as nothing reads declarations.
-unfoldable pub fits : Bool → (List ℕ → Bool) → Kind → List ℕ → Bool
-fits images own Number value = is_number value
-fits images own Word value = is_word value
-fits images own Flag value = is_nothing value
-fits images own Text value = true
-fits images own Link value = is_link value
-fits images own Source value = is_source images own value
-fits images own Style value = false
+unfoldable pub is_value_of : Bool → (List ℕ → Bool) → ValueKind → List ℕ → Bool
+is_value_of images own Number value = is_number value
+is_value_of images own Word value = is_word value
+is_value_of images own Flag value = is_empty value
+is_value_of images own Text value = true
+is_value_of images own Link value = is_link value
+is_value_of images own Source value = is_source images own value
+is_value_of images own Style value = false
 
-abbrev pub fits_kind : Bool → (List ℕ → Bool) → Option Kind → List ℕ → Bool
-fits_kind images own None value = false
-fits_kind images own (Some kind) value = fits images own kind value
+abbrev pub is_value_of_kind : Bool → (List ℕ → Bool) → Option ValueKind → List ℕ → Bool
+is_value_of_kind images own None value = false
+is_value_of_kind images own (Some kind) value = is_value_of images own kind value
 
 -- a value of the attribute's kind
-unfoldable pub fits_attribute : Bool → (List ℕ → Bool) → Name → List ℕ → Bool
-fits_attribute images own name value = fits_kind images own (kind_of name) value
+unfoldable pub is_value_of_attribute : Bool → (List ℕ → Bool) → Name → List ℕ → Bool
+is_value_of_attribute images own name value = is_value_of_kind images own (kind_of name) value

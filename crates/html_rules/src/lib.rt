@@ -12,8 +12,8 @@ ghost use Rattle.html_rules.specs.Tables.{is_void as is_void_name};
 pub use laws::{allowed_pages_are_known, allowed_pages_have_one_mail, allowed_pages_load};
 
 /// The kinds of value that the attributes of a message have. The table of kinds says which attribute has which.
-#[derive(Clone, Copy, Debug, PartialEq, Eq)]
-pub enum Kind {
+#[derive(Clone, Copy)]
+pub enum ValueKind {
     /// An optional sign, 1 to 5 digits, an optional `%`.
     Number,
     /// 1 to 32 ASCII letters, digits, `-` and `#`.
@@ -31,7 +31,7 @@ pub enum Kind {
 }
 
 /// Whether an element of this name has neither content nor an end tag (HTML Standard, 13.1.2, void elements).
-#[tactic(auto, unfolding(crate::specs::Tables::is_void, crate::specs::Tables::message_voids, crate::specs::Tables::frame_voids))]
+#[tactic(auto, unfolding(crate::specs::Tables::is_void, crate::specs::Tables::message_void_elements, crate::specs::Tables::frame_void_elements))]
 pub fn is_void(name: &str) -> bool
     ensures { result ≡ is_void_name name.now }
 {

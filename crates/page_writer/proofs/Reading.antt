@@ -8,7 +8,7 @@ use Rattle.html_tokens.specs.References.{reference}
 use Rattle.html_tokens.specs.Tokenizer.{Tag, has_name, after_start, look, again, step, read, keep}
 use Rattle.html_tokens.specs.Tokenizer.Kind.{Rcdata}
 use Rattle.html_tokens.specs.Tokenizer.State.{Data, Raw, TagName, BeforeName, AttributeName, QuotedValue, AfterValue}
-use Rattle.page_writer.specs.Page.{spell_attributes, spell_token, spell_char, spell_chars, IsShown}
+use Rattle.page_writer.specs.Page.{spell_attributes, spell_token, spell_char, spell_chars, IsWritable}
 use Rattle.page_writer.proofs.Distinct.{AreAttributes}
 use Rattle.html_tokens.specs.References.{is_between}
 use Rattle.html_rules.proofs.Facts.{and_true, no_of}
@@ -17,7 +17,7 @@ use Rattle.page_writer.proofs.Names.Spelled.{is_lt, is_gt, is_amp, is_quot, is_c
 
 -- ---- characters
 
-pub not_nul : (c : ℕ) → IsShown c → eqb c 0 ≡ false
+pub not_nul : (c : ℕ) → IsWritable c → eqb c 0 ≡ false
 not_nul c h = no_of (eqb c 0) h.0
 
 pub data_char : (c : ℕ) (rest : List ℕ) → eqb c 0 ≡ false → read Data 0 (spell_char c ++ rest) ≡ Char c ∷ read Data 0 rest
@@ -56,7 +56,7 @@ value_char tag name value c rest h =
       | itself lt gt amp quot cr ↦ rw (lt, gt, amp, quot, cr, h, quot, amp, h) refl
     ]
 
-value_chars : (tag : Tag) (name value cs rest : List ℕ) → AllByRecursion IsShown cs → read (QuotedValue 34 tag name value) 0 (spell_chars cs ++ rest) ≡ read (QuotedValue 34 tag name (value ++ cs)) 0 rest
+value_chars : (tag : Tag) (name value cs rest : List ℕ) → AllByRecursion IsWritable cs → read (QuotedValue 34 tag name value) 0 (spell_chars cs ++ rest) ≡ read (QuotedValue 34 tag name (value ++ cs)) 0 rest
 value_chars tag name value [] rest h = rw append-nil refl
 value_chars tag name value (c ∷ cs) rest h =
     rw (append_assoc (spell_char c) (spell_chars cs) rest)
@@ -133,7 +133,7 @@ attribute_name_reads tag (c ∷ cs) rest h =
     let both = and_true (is_between 97 122 c) (name_chars cs) h in
     first_char tag c (cs ++ rest) (letter_char c both.0).in_name ∙ attribute_chars tag (c ∷ []) cs rest both.1
 
-attribute_reads : (tag : Tag) (a : Attribute) (rest : List ℕ) → is_name a.name ≡ true → AllByRecursion IsShown a.value
+attribute_reads : (tag : Tag) (a : Attribute) (rest : List ℕ) → is_name a.name ≡ true → AllByRecursion IsWritable a.value
     → read (BeforeName tag) 0 (a.name ++ (61 ∷ 34 ∷ (spell_chars a.value ++ 34 ∷ rest))) ≡ read (AfterValue (keep tag a.name a.value)) 0 rest
 attribute_reads tag a rest is_named is_shown =
     attribute_name_reads tag a.name (61 ∷ 34 ∷ (spell_chars a.value ++ 34 ∷ rest)) is_named

@@ -1,6 +1,6 @@
 -- Words for functions that write a page by many calls.
 use Rattle.std.specs.Str.{chars}
-use Rattle.html_rules.specs.Tables.{message_elements, frame_elements, message_voids, frame_voids, text_elements, is_element, is_void, is_text, common_attributes, attribute_rows, link_attributes, frame_attributes, is_attribute_name}
+use Rattle.html_rules.specs.Tables.{message_elements, frame_elements, message_void_elements, frame_void_elements, text_only_elements, is_element, is_void, is_text_only, common_attributes, attribute_rows, link_attributes, frame_attributes, is_attribute_name}
 
 -- A function that writes elements and attributes by names that stand in its code as texts has the line
 --     #[tactic(auto, unfolding(page_writer::specs::Writing::literals))]
@@ -10,5 +10,5 @@ use Rattle.html_rules.specs.Tables.{message_elements, frame_elements, message_vo
 --     unfolding literals
 --     returns c = c.finish.ensures.reads ∙ rw (c.in_ok-end-2.ensures.ok, .., c.in_ok-doctype.ensures.ok, c.new-out.ensures.written) (simp append_assoc)
 unfoldable pub literals : Unit {0}
-unfolding chars message_elements frame_elements message_voids frame_voids text_elements is_element is_void is_text common_attributes attribute_rows link_attributes frame_attributes is_attribute_name
+unfolding chars message_elements frame_elements message_void_elements frame_void_elements text_only_elements is_element is_void is_text_only common_attributes attribute_rows link_attributes frame_attributes is_attribute_name
 literals = tt

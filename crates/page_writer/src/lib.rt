@@ -12,9 +12,9 @@ ghost use Rattle.std.specs.Prelude.{◌≡◌, ℕ, ◌<◌, List, [], ◌∷◌
 ghost use Rattle.html_tokens.specs.Token.Token.{Start, End, Doctype};
 ghost use Rattle.html_tokens.specs.Tokenizer.{tokens_of_bytes};
 ghost use Rattle.page_writer.specs.Page.{spell, takes_tags, MayStart};
-ghost use Rattle.html_rules.specs.Tokens.{shown_values};
-ghost use Rattle.page_writer.specs.Writer.{added, with_text, innermost};
-ghost use Rattle.html_rules.specs.Nested.{Nested};
+ghost use Rattle.html_rules.specs.Tokens.{replace_nulls};
+ghost use Rattle.page_writer.specs.Writer.{with_token, with_text, innermost};
+ghost use Rattle.html_rules.specs.Nesting.{IsNested};
 
 use html_rules::is_void;
 use html_tokens::Attributes;
@@ -34,13 +34,13 @@ pub struct PageOut {
 }
 
 impl Model for PageOut {
-    ghost use Rattle.page_writer.specs.Writer.{Page, page_of, names_of, IsHeld};
+    ghost use Rattle.page_writer.specs.Writer.{Page, page_of, names_of, IsPagePrefix};
 
     ghost Value = { Page };
 
     ghost view = { λ a. page_of a.bytes.items (names_of a.inside.items) };
 
-    ghost invariant = { λ a. IsHeld a.bytes.items (names_of a.inside.items) };
+    ghost invariant = { λ a. IsPagePrefix a.bytes.items (names_of a.inside.items) };
 }
 
 impl PageOut {
@@ -58,7 +58,7 @@ impl PageOut {
     /// Writes `<!DOCTYPE html>`.
     pub fn doctype(&mut self) -> Result<(), Memory>
         requires { IsTrue (takes_tags self.old.opened) }
-        ensures ok { OnOk result (self.new ≡ added self.old Doctype) }
+        ensures ok { OnOk result (self.new ≡ with_token self.old Doctype) }
         ensures err { OnErr result (self.new ≡ self.old) }
     {
         self.bytes.extend_from_slice(b"<!DOCTYPE html>")
@@ -83,7 +83,7 @@ impl PageOut {
         attributes: &Attributes,
     ) -> Result<(), Memory>
         requires { MayStart self.old.opened (chars name.now) attributes.now }
-        ensures ok { OnOk result (self.new ≡ added self.old (Start (chars name.now) (shown_values attributes.now))) }
+        ensures ok { OnOk result (self.new ≡ with_token self.old (Start (chars name.now) (replace_nulls attributes.now))) }
         ensures err { OnErr result (self.new ≡ self.old) }
     {
         if is_void(name) {
@@ -96,7 +96,7 @@ impl PageOut {
     /// Writes the end tag of the innermost open element, and closes it.
     pub fn end(&mut self) -> Result<(), Memory>
         requires { 0 < length self.old.opened }
-        ensures ok { OnOk result (self.new ≡ added self.old (End (innermost self.old.opened))) }
+        ensures ok { OnOk result (self.new ≡ with_token self.old (End (innermost self.old.opened))) }
         ensures err { OnErr result (self.new ≡ self.old) }
     {
         let last = self.inside.len() - 1;
@@ -110,7 +110,7 @@ impl PageOut {
         requires { self.opened ≡ [] }
         ensures spelled { result.items ≡ encode_utf8_all (spell self.written) }
         ensures reads { tokens_of_bytes result.items ≡ self.written }
-        ensures nested { Nested self.written }
+        ensures nested { IsNested self.written }
     {
         let PageOut { bytes, inside } = self;
         bytes

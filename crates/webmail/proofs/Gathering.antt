@@ -7,7 +7,7 @@ use Rattle.std.proofs.lemmas.Str.{IsUtf8-from_is_utf8, chars-append}
 use Rattle.html_tokens.specs.Token.{Token}
 use Rattle.html_tokens.specs.Token.Token.{Char}
 use Rattle.html_tokens.specs.Tokenizer.{shown}
-use Rattle.html_rules.specs.Tokens.{shown_tokens}
+use Rattle.html_rules.specs.Tokens.{text_tokens}
 use Rattle.page_writer.specs.Writer.{Page}
 use Rattle.std.specs.List.{position_or_len}
 use Rattle.std.specs.Result.{OnOk}
@@ -19,7 +19,7 @@ use Rattle.webmail.specs.Text.{is_return, line_feeds}
 use Rattle.webmail.proofs.LineFeeds.{line_feeds-clean, line_feeds-nil}
 use Rattle.webmail.specs.Gathered.{Gathers}
 
-shown-append : (xs ys : List ℕ) → shown_tokens (xs ++ ys) ≡ shown_tokens xs ++ shown_tokens ys
+shown-append : (xs ys : List ℕ) → text_tokens (xs ++ ys) ≡ text_tokens xs ++ text_tokens ys
 shown-append [] ys = refl
 shown-append (x ∷ xs) ys = ap (λ ts. Char (shown x) ∷ ts) (shown-append xs ys)
 
@@ -32,7 +32,7 @@ unfolding is_utf8 chars encode
 line_feed-valid = IsUtf8-from_is_utf8 (10 ∷ []) refl
 
 pub text-append : (xs ys : List ℕ) → IsUtf8 xs → text (xs ++ ys) ≡ text xs ++ text ys
-text-append xs ys valid = ap shown_tokens (chars-append xs ys valid) ∙ shown-append (chars xs) (chars ys)
+text-append xs ys valid = ap text_tokens (chars-append xs ys valid) ∙ shown-append (chars xs) (chars ys)
 
 -- more was gathered
 pub gathers-more : (page : Page) (gathered left more : List ℕ) → IsUtf8 gathered → IsUtf8 more → left ≡ gathered ++ more

@@ -6,11 +6,11 @@ use Rattle.std.specs.List.{list_all}
 use Rattle.std.specs.Str.{chars}
 use Rattle.html_tokens.specs.Token.{Token}
 use Rattle.html_tokens.specs.Token.Token.{End}
-use Rattle.html_rules.specs.Tables.{message_elements, frame_elements, message_voids, frame_voids, is_message_element, is_element, is_void, frame_attributes, is_frame_attribute}
-use Rattle.html_rules.specs.Tokens.{plain, with}
-use Rattle.html_rules.specs.Nested.{open_after, Nested}
-use Rattle.html_rules.specs.Message.{is_message_token}
-use Rattle.html_rules.specs.Frame.{is_frame_token, is_frame, opens_mail, is_local}
+use Rattle.html_rules.specs.Tables.{message_elements, frame_elements, message_void_elements, frame_void_elements, is_message_element, is_element, is_void, frame_attributes, is_frame_attribute_name}
+use Rattle.html_rules.specs.Tokens.{start_tag, start_tag_with}
+use Rattle.html_rules.specs.Nesting.{open_elements_after, IsNested}
+use Rattle.html_rules.specs.MessageTokens.{is_message_token}
+use Rattle.html_rules.specs.FrameTokens.{is_frame_token, is_frame, opens_mail, is_local_address}
 use Rattle.html_rules.specs.Allowed.{IsAllowed, loads}
 use Rattle.html_rules.proofs.Nesting.{open_after-text}
 use Rattle.html_rules.proofs.Parts.{is_frame-append, is_frame-text, is_message-append, is_message-text, loads-append, loads-text}
@@ -47,7 +47,7 @@ td_frame value = after_text value (End (codes "td") ∷ []) refl
 row_frame : (name value : List ℕ) → is_frame (field_row name value) ≡ true
 unfolding is_frame_token opens_mail is_element message_elements frame_elements
 row_frame name value =
-    is_frame-append (plain (codes "tr") ∷ element (codes "th") name ++ element (codes "td") value) (End (codes "tr") ∷ [])
+    is_frame-append (start_tag (codes "tr") ∷ element (codes "th") name ++ element (codes "td") value) (End (codes "tr") ∷ [])
     (is_frame-append (element (codes "th") name) (element (codes "td") value) (th_frame name) (td_frame value)) refl
 
 found_frame : (name : List ℕ) (field : Option FieldValue) → is_frame (found_row name field) ≡ true
@@ -71,27 +71,27 @@ unfolding is_frame_token opens_mail is_element message_elements frame_elements
 heading_frame title = after_text title (End (codes "h1") ∷ []) refl
 
 head_frame : (title : List ℕ) → is_frame (document_head title) ≡ true
-unfolding is_frame_token opens_mail is_element message_elements frame_elements is_frame_attribute frame_attributes
+unfolding is_frame_token opens_mail is_element message_elements frame_elements is_frame_attribute_name frame_attributes
 head_frame title =
     is_frame-append (document_start ++ element (codes "title") title) (style_link ∷ End (codes "head") ∷ line_end ∷ [])
     (is_frame-append document_start (element (codes "title") title) refl (title_frame title)) refl
 
 message_head_frame : (fields : List FieldValue) → is_frame (message_head fields) ≡ true
-unfolding is_frame_token opens_mail is_element message_elements frame_elements is_frame_attribute frame_attributes
+unfolding is_frame_token opens_mail is_element message_elements frame_elements is_frame_attribute_name frame_attributes
 message_head_frame fields =
-    let table : Token = with (codes "table") (codes "class") (codes "head") in
-    is_frame-append (plain (codes "body") ∷ element (codes "h1") (title_of fields) ++ (line_end ∷ table ∷ field_rows fields)) (End (codes "table") ∷ line_end ∷ [])
-    (is_frame-append (plain (codes "body") ∷ element (codes "h1") (title_of fields)) (line_end ∷ table ∷ field_rows fields) (heading_frame (title_of fields)) (rows_frame fields)) refl
+    let table : Token = start_tag_with (codes "table") (codes "class") (codes "head") in
+    is_frame-append (start_tag (codes "body") ∷ element (codes "h1") (title_of fields) ++ (line_end ∷ table ∷ field_rows fields)) (End (codes "table") ∷ line_end ∷ [])
+    (is_frame-append (start_tag (codes "body") ∷ element (codes "h1") (title_of fields)) (line_end ∷ table ∷ field_rows fields) (heading_frame (title_of fields)) (rows_frame fields)) refl
 
-address_local : (rest : List ℕ) → is_local (map shown_char (chars (codes "/part/0/0/" ++ rest))) ≡ true
+address_local : (rest : List ℕ) → is_local_address (map shown_char (chars (codes "/part/0/0/" ++ rest))) ≡ true
 unfolding chars lib.Utf8.encode
-address_local rest = ap (λ (cs : List ℕ). is_local (map shown_char cs)) (chars-append (codes "/part/0/0/") rest (codes "/part/0/0/", (refl, refl)))
+address_local rest = ap (λ (cs : List ℕ). is_local_address (map shown_char cs)) (chars-append (codes "/part/0/0/") rest (codes "/part/0/0/", (refl, refl)))
 
-link_local : (section : List ℕ) → is_local (map shown_char (chars (part_address section))) ≡ true
-link_local section = ap (λ (bs : List ℕ). is_local (map shown_char (chars bs))) (append_assoc (codes "/part/0/0/") (spelling section) (codes "?f=")) ∙ address_local (spelling section ++ codes "?f=")
+link_local : (section : List ℕ) → is_local_address (map shown_char (chars (part_address section))) ≡ true
+link_local section = ap (λ (bs : List ℕ). is_local_address (map shown_char (chars bs))) (append_assoc (codes "/part/0/0/") (spelling section) (codes "?f=")) ∙ address_local (spelling section ++ codes "?f=")
 
 link_frame : (section : List ℕ) → is_frame (part_link section) ≡ true
-unfolding part_link is_frame_token opens_mail is_element message_elements frame_elements is_frame_attribute frame_attributes
+unfolding part_link is_frame_token opens_mail is_element message_elements frame_elements is_frame_attribute_name frame_attributes
 link_frame section = rw (link_local section) (after_text (spelling section) (End (codes "a") ∷ []) refl)
 
 name_frame : (name : List ℕ) → is_frame (name_words name) ≡ true
@@ -108,10 +108,10 @@ words_frame p =
     (text_frame (decimal (length p.bytes)))
 
 item_frame : (p : PartValue) → is_frame (part_item p) ≡ true
-unfolding is_frame_token opens_mail is_element message_elements frame_elements is_frame_attribute frame_attributes
+unfolding is_frame_token opens_mail is_element message_elements frame_elements is_frame_attribute_name frame_attributes
 item_frame p =
-    is_frame-append (plain (codes "li") ∷ part_link p.section ++ part_words p) (End (codes "li") ∷ [])
-    (is_frame-append (plain (codes "li") ∷ part_link p.section) (part_words p) (link_frame p.section) (words_frame p)) refl
+    is_frame-append (start_tag (codes "li") ∷ part_link p.section ++ part_words p) (End (codes "li") ∷ [])
+    (is_frame-append (start_tag (codes "li") ∷ part_link p.section) (part_words p) (link_frame p.section) (words_frame p)) refl
 
 leaf_frame : (p : PartValue) → is_frame (leaf_item p) ≡ true
 leaf_frame p = elim (cases_Bool (is_leaf p)) [ inl leaf ↦ rw leaf (item_frame p) | inr holds ↦ rw holds refl ]
@@ -121,8 +121,8 @@ items_frame [] = refl
 items_frame (p ∷ ps) = is_frame-append (leaf_item p) (part_items ps) (leaf_frame p) (items_frame ps)
 
 parts_frame : (parts : List PartValue) → is_frame (part_list parts) ≡ true
-unfolding is_frame_token opens_mail is_element message_elements frame_elements is_frame_attribute frame_attributes
-parts_frame parts = is_frame-append (with (codes "ul") (codes "class") (codes "parts") ∷ part_items parts) (End (codes "ul") ∷ []) (items_frame parts) refl
+unfolding is_frame_token opens_mail is_element message_elements frame_elements is_frame_attribute_name frame_attributes
+parts_frame parts = is_frame-append (start_tag_with (codes "ul") (codes "class") (codes "parts") ∷ part_items parts) (End (codes "ul") ∷ []) (items_frame parts) refl
 
 -- ---- the page
 
@@ -143,11 +143,11 @@ after_frame parts = is_frame-append (line_end ∷ part_list parts) document_end 
 -- ---- what is shown
 
 plain_is : (images : Bool) (own : List ℕ → Bool) (content : List ℕ) → list_all (is_message_token images own) (plain_text content) ≡ true
-unfolding plain_text is_message_token is_message_element message_elements is_void message_voids frame_voids
+unfolding plain_text is_message_token is_message_element message_elements is_void message_void_elements frame_void_elements
 plain_is images own content = is_message-append images own (text content) (End (codes "pre") ∷ []) (is_message-text images own (chars content)) refl
 
 paragraph_is : (images : Bool) (own : List ℕ → Bool) (content : List ℕ) → list_all (is_message_token images own) (paragraph content) ≡ true
-unfolding paragraph is_message_token is_message_element message_elements is_void message_voids frame_voids
+unfolding paragraph is_message_token is_message_element message_elements is_void message_void_elements frame_void_elements
 paragraph_is images own content = is_message-append images own (text content) (End (codes "p") ∷ []) (is_message-text images own (chars content)) refl
 
 plain_part_is : (images : Bool) (own : List ℕ → Bool) (p : Option PartValue) → list_all (is_message_token images own) (plain_part p) ≡ true
@@ -174,27 +174,27 @@ message_is : (images : Bool) (own : List ℕ → Bool) (message : List ℕ) (par
 unfolding shown_of
 message_is images own message part = mail_or_none_is images own (tree_of message).parts (chosen (tree_of message) part)
 
-plain_nested : (content : List ℕ) → Nested (plain_text content)
-unfolding plain_text open_after is_void message_voids frame_voids
+plain_nested : (content : List ℕ) → IsNested (plain_text content)
+unfolding plain_text open_elements_after is_void message_void_elements frame_void_elements
 plain_nested content = open_after-text (codes "pre" ∷ []) (chars content) (End (codes "pre") ∷ [])
 
-paragraph_nested : (content : List ℕ) → Nested (paragraph content)
-unfolding paragraph open_after is_void message_voids frame_voids
+paragraph_nested : (content : List ℕ) → IsNested (paragraph content)
+unfolding paragraph open_elements_after is_void message_void_elements frame_void_elements
 paragraph_nested content = open_after-text (codes "p" ∷ []) (chars content) (End (codes "p") ∷ [])
 
-nothing_nested : Nested []
-unfolding open_after
+nothing_nested : IsNested []
+unfolding open_elements_after
 nothing_nested = refl
 
-plain_part_nested : (p : Option PartValue) → Nested (plain_part p)
+plain_part_nested : (p : Option PartValue) → IsNested (plain_part p)
 plain_part_nested None = nothing_nested
 plain_part_nested (Some p) = plain_nested (text_of_part p)
 
-unread_part_nested : (p : Option PartValue) → Nested (unread_part p)
+unread_part_nested : (p : Option PartValue) → IsNested (unread_part p)
 unread_part_nested None = nothing_nested
 unread_part_nested (Some p) = paragraph_nested (unread_words p)
 
-mail_nested : (parts : List PartValue) (shown : Shown) → Nested (mail_of parts shown)
+mail_nested : (parts : List PartValue) (shown : Shown) → IsNested (mail_of parts shown)
 unfolding mail_of
 mail_nested parts (Plain section) = plain_part_nested (part_at section parts)
 mail_nested parts (Unread section) = unread_part_nested (part_at section parts)
@@ -202,11 +202,11 @@ mail_nested parts Nothing = paragraph_nested (codes "No text to show.")
 mail_nested parts (Flowed section del_sp) = nothing_nested
 mail_nested parts (Html section) = nothing_nested
 
-mail_or_none_nested : (parts : List PartValue) (shown : Option Shown) → Nested (mail_or_none parts shown)
+mail_or_none_nested : (parts : List PartValue) (shown : Option Shown) → IsNested (mail_or_none parts shown)
 mail_or_none_nested parts (Some shown) = mail_nested parts shown
 mail_or_none_nested parts None = nothing_nested
 
-message_nested : (message : List ℕ) (part : Option (List ℕ)) → Nested (shown_of message part)
+message_nested : (message : List ℕ) (part : Option (List ℕ)) → IsNested (shown_of message part)
 unfolding shown_of
 message_nested message part = mail_or_none_nested (tree_of message).parts (chosen (tree_of message) part)
 
@@ -219,7 +219,7 @@ in_place message part =
     ap (λ (l : List Token). l ++ A) (append_assoc B (mail ∷ []) (shown_of message part)) ∙ append_assoc B (mail ∷ shown_of message part) A
 
 pub allowed : (message : List ℕ) (part : Option (List ℕ)) (images : Bool) (own : List ℕ → Bool) → IsAllowed (page_of message part) images own
-unfolding is_frame_token opens_mail is_element message_elements frame_elements is_frame_attribute frame_attributes
+unfolding is_frame_token opens_mail is_element message_elements frame_elements is_frame_attribute_name frame_attributes
 allowed message part images own = inr (record {
   before = before (header_of message).fields;
   mail = mail;
@@ -255,7 +255,7 @@ td_loads value = past_text value (End (codes "td") ∷ []) refl
 row_loads : (name value : List ℕ) → loads (field_row name value) ≡ []
 unfolding loads
 row_loads name value =
-    both_load (plain (codes "tr") ∷ element (codes "th") name ++ element (codes "td") value) (End (codes "tr") ∷ [])
+    both_load (start_tag (codes "tr") ∷ element (codes "th") name ++ element (codes "td") value) (End (codes "tr") ∷ [])
     (both_load (element (codes "th") name) (element (codes "td") value) (th_loads name) (td_loads value)) refl
 
 found_loads : (name : List ℕ) (field : Option FieldValue) → loads (found_row name field) ≡ []
@@ -271,20 +271,20 @@ rows_load fields =
     (found_loads (codes "Cc") (first_of (codes "Cc") fields)))
     (found_loads (codes "Date") (first_of (codes "Date") fields))
 
-heading_loads : (title : List ℕ) → loads (plain (codes "body") ∷ element (codes "h1") title) ≡ []
+heading_loads : (title : List ℕ) → loads (start_tag (codes "body") ∷ element (codes "h1") title) ≡ []
 unfolding loads
 heading_loads title = past_text title (End (codes "h1") ∷ []) refl
 
-table_loads : (fields : List FieldValue) → loads (line_end ∷ with (codes "table") (codes "class") (codes "head") ∷ field_rows fields) ≡ []
+table_loads : (fields : List FieldValue) → loads (line_end ∷ start_tag_with (codes "table") (codes "class") (codes "head") ∷ field_rows fields) ≡ []
 unfolding loads
 table_loads fields = rows_load fields
 
 message_head_loads : (fields : List FieldValue) → loads (message_head fields) ≡ []
 unfolding loads
 message_head_loads fields =
-    let table : Token = with (codes "table") (codes "class") (codes "head") in
-    both_load (plain (codes "body") ∷ element (codes "h1") (title_of fields) ++ (line_end ∷ table ∷ field_rows fields)) (End (codes "table") ∷ line_end ∷ [])
-    (both_load (plain (codes "body") ∷ element (codes "h1") (title_of fields)) (line_end ∷ table ∷ field_rows fields) (heading_loads (title_of fields)) (table_loads fields)) refl
+    let table : Token = start_tag_with (codes "table") (codes "class") (codes "head") in
+    both_load (start_tag (codes "body") ∷ element (codes "h1") (title_of fields) ++ (line_end ∷ table ∷ field_rows fields)) (End (codes "table") ∷ line_end ∷ [])
+    (both_load (start_tag (codes "body") ∷ element (codes "h1") (title_of fields)) (line_end ∷ table ∷ field_rows fields) (heading_loads (title_of fields)) (table_loads fields)) refl
 
 title_loads : (title : List ℕ) → loads (element (codes "title") title) ≡ []
 unfolding loads
@@ -352,8 +352,8 @@ words_load p =
 item_loads : (p : PartValue) → loads (part_item p) ≡ []
 unfolding loads
 item_loads p =
-    both_load (plain (codes "li") ∷ part_link p.section ++ part_words p) (End (codes "li") ∷ [])
-    (both_load (plain (codes "li") ∷ part_link p.section) (part_words p) (link_loads p.section) (words_load p)) refl
+    both_load (start_tag (codes "li") ∷ part_link p.section ++ part_words p) (End (codes "li") ∷ [])
+    (both_load (start_tag (codes "li") ∷ part_link p.section) (part_words p) (link_loads p.section) (words_load p)) refl
 
 leaf_loads : (p : PartValue) → loads (leaf_item p) ≡ []
 leaf_loads p = elim (cases_Bool (is_leaf p)) [ inl leaf ↦ rw leaf (item_loads p) | inr holds ↦ rw holds nothing_loads ]
@@ -386,7 +386,7 @@ loads_sheet message part =
 -- ---- both
 
 -- the page of a message, read back and nested
-pub safe : (message : List ℕ) (part : Option (List ℕ)) (bytes : List ℕ) → bytes ≡ page_bytes message part → tokens_of_bytes bytes ≡ page_of message part → Nested (page_of message part) → IsSafe message part
+pub safe : (message : List ℕ) (part : Option (List ℕ)) (bytes : List ℕ) → bytes ≡ page_bytes message part → tokens_of_bytes bytes ≡ page_of message part → IsNested (page_of message part) → IsSafe message part
 safe message part bytes is reads nested = record {
   reads = ap tokens_of_bytes (sym is) ∙ reads;
   allowed = allowed message part false (is_own message);

@@ -4,9 +4,9 @@ use Rattle.std.specs.List.{flat_map}
 use Rattle.html_tokens.specs.Token.{Token}
 use Rattle.html_tokens.specs.Token.Token.{Start, End, Char, Doctype}
 use Rattle.html_rules.specs.Tables.{Name}
-use Rattle.html_rules.specs.Tokens.{shown_tokens, shown_values}
+use Rattle.html_rules.specs.Tokens.{text_tokens, replace_nulls}
 use Rattle.page_writer.specs.Writer.{Page}
-use Rattle.html_rules.specs.Tokens.{plain, with}
+use Rattle.html_rules.specs.Tokens.{start_tag, start_tag_with}
 use Rattle.mail_values.specs.Section.{spelling}
 use Rattle.header_words.specs.Fields.{FieldValue, first_of}
 use Rattle.header_words.specs.Value.{decoded_of}
@@ -15,14 +15,14 @@ use Rattle.mime_tree.specs.Tree.{PartValue}
 
 -- a text in UTF-8, as characters
 abbrev pub text : List ℕ → List Token
-text bytes = shown_tokens (chars bytes)
+text bytes = text_tokens (chars bytes)
 
 abbrev pub line_end : Token
 line_end = Char 10
 
 -- an element with a text in it
 abbrev pub element : List ℕ → List ℕ → List Token
-element name content = plain name ∷ text content ++ End name ∷ []
+element name content = start_tag name ∷ text content ++ End name ∷ []
 
 -- the only address that a page loads
 abbrev pub style_link : Token
@@ -36,11 +36,11 @@ document_end = line_end ∷ End (codes "body") ∷ End (codes "html") ∷ line_e
 
 -- the beginning of the document's head, which says how its bytes are read
 abbrev pub head_start : List Token
-head_start = plain (codes "head") ∷ with (codes "meta") (codes "charset") (codes "utf-8") ∷ []
+head_start = start_tag (codes "head") ∷ start_tag_with (codes "meta") (codes "charset") (codes "utf-8") ∷ []
 
 -- the document's beginning
 abbrev pub document_start : List Token
-document_start = Doctype ∷ line_end ∷ with (codes "html") (codes "lang") (codes "en") ∷ head_start
+document_start = Doctype ∷ line_end ∷ start_tag_with (codes "html") (codes "lang") (codes "en") ∷ head_start
 
 -- the document's head, which has its title
 abbrev pub document_head : List ℕ → List Token
@@ -48,7 +48,7 @@ document_head title = document_start ++ element (codes "title") title ++ style_l
 
 -- a row of the table of fields
 abbrev pub field_row : List ℕ → List ℕ → List Token
-field_row name value = plain (codes "tr") ∷ element (codes "th") name ++ element (codes "td") value ++ End (codes "tr") ∷ []
+field_row name value = start_tag (codes "tr") ∷ element (codes "th") name ++ element (codes "td") value ++ End (codes "tr") ∷ []
 
 -- the row of a field of this name, where one stands
 abbrev pub found_row : List ℕ → Option FieldValue → List Token
@@ -76,12 +76,12 @@ title_of fields = found_title (first_of (codes "Subject") fields)
 -- what stands in the body before the message
 abbrev pub message_head : List FieldValue → List Token
 message_head fields =
-    plain (codes "body") ∷ element (codes "h1") (title_of fields)
-    ++ line_end ∷ with (codes "table") (codes "class") (codes "head") ∷ field_rows fields
+    start_tag (codes "body") ∷ element (codes "h1") (title_of fields)
+    ++ line_end ∷ start_tag_with (codes "table") (codes "class") (codes "head") ∷ field_rows fields
     ++ End (codes "table") ∷ line_end ∷ []
 
 abbrev pub mail : Token
-mail = with (codes "div") (codes "class") (codes "mail")
+mail = start_tag_with (codes "div") (codes "class") (codes "mail")
 
 -- all that stands before the message's own tokens
 unfoldable pub frame_before : List FieldValue → List Token
@@ -96,7 +96,7 @@ part_address section = codes "/part/0/0/" ++ spelling section ++ codes "?f="
 -- a link to an address, with a text in it
 abbrev pub link : List ℕ → List ℕ → List Token
 link address content =
-    Start (codes "a") (shown_values (record { name = codes "href"; value = chars address } ∷ []))
+    Start (codes "a") (replace_nulls (record { name = codes "href"; value = chars address } ∷ []))
     ∷ text content ++ End (codes "a") ∷ []
 
 unfoldable pub part_link : List ℕ → List Token
@@ -111,7 +111,7 @@ unfoldable pub part_words : PartValue → List Token
 part_words p = text (codes " ") ++ text p.mime ++ name_words p.name ++ text (codes " ") ++ text (decimal (length p.bytes))
 
 abbrev pub part_item : PartValue → List Token
-part_item p = plain (codes "li") ∷ part_link p.section ++ part_words p ++ End (codes "li") ∷ []
+part_item p = start_tag (codes "li") ∷ part_link p.section ++ part_words p ++ End (codes "li") ∷ []
 
 -- a part that holds parts is none of the list
 abbrev pub is_leaf : PartValue → Bool
@@ -124,7 +124,7 @@ abbrev pub part_items : List PartValue → List Token
 part_items parts = flat_map leaf_item parts
 
 abbrev pub part_list : List PartValue → List Token
-part_list parts = with (codes "ul") (codes "class") (codes "parts") ∷ part_items parts ++ End (codes "ul") ∷ []
+part_list parts = start_tag_with (codes "ul") (codes "class") (codes "parts") ∷ part_items parts ++ End (codes "ul") ∷ []
 
 -- all that stands after the message's own tokens
 unfoldable pub frame_after : List PartValue → List Token

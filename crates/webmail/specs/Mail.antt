@@ -2,7 +2,7 @@
 use Rattle.std.specs.Prelude.{ℕ, Bool, true, false, ◌||◌, List, [], ◌∷◌, ◌++◌, if◌then◌else◌, codes, bytes_eq, Option, Some, None, is_some, unwrap_or, option_and_then}
 use Rattle.html_tokens.specs.Token.{Token}
 use Rattle.html_tokens.specs.Token.Token.{End}
-use Rattle.html_rules.specs.Tokens.{plain}
+use Rattle.html_rules.specs.Tokens.{start_tag}
 use Rattle.mail_values.specs.Section.{spelling}
 use Rattle.transfer_codings.specs.Codings.{decoded}
 use Rattle.transfer_codings.specs.Charsets.{charset_named, text_in}
@@ -19,7 +19,7 @@ use Rattle.webmail.specs.Frame.{text, element, line_end}
 -- a part that was asked for, where it is a text or a page: attached or not, and wherever it stands
 abbrev pub asked_as : PartValue → Option Shown
 asked_as p =
-    if bytes_eq p.mime (codes "text/plain") || is_html p
+    if bytes_eq p.mime (codes "text/start_tag") || is_html p
     then Some (if is_some (charset_named p.charset) then shown_as p else Unread p.section)
     else None
 
@@ -44,7 +44,7 @@ text_of_part p = line_feeds (text_in (unwrap_or (charset_named p.charset) Utf8) 
 
 -- a plain text
 unfoldable pub plain_text : List ℕ → List Token
-plain_text content = plain (codes "pre") ∷ line_end ∷ text content ++ End (codes "pre") ∷ []
+plain_text content = start_tag (codes "pre") ∷ line_end ∷ text content ++ End (codes "pre") ∷ []
 
 -- a paragraph in place of a text
 unfoldable pub paragraph : List ℕ → List Token

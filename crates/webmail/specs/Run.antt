@@ -7,7 +7,7 @@ use Rattle.mail_values.specs.Section.{IsSection, spelling}
 use Rattle.mail_io.specs.Stream.{ReadsWhole, WritesSome}
 use Rattle.html_tokens.specs.Tokenizer.{tokens_of_bytes, same}
 use Rattle.page_writer.specs.Page.{spell}
-use Rattle.html_rules.specs.Nested.{Nested}
+use Rattle.html_rules.specs.Nesting.{IsNested}
 use Rattle.html_rules.specs.Allowed.{IsAllowed, loads}
 use Rattle.mime_tree.specs.declared.choice.Shown.{Shown}
 use Rattle.mime_tree.specs.Opening.{tree_of}
@@ -42,7 +42,7 @@ is_own message address = list_any (λ (p : PartValue). is_leaf p && same (chars 
 pub record IsSafe (message : List ℕ) (part : Option (List ℕ)) : Type 0 where
   pub reads : tokens_of_bytes (page_bytes message part) ≡ page_of message part
   pub allowed : IsAllowed (page_of message part) false (is_own message)
-  pub nested : Nested (page_of message part)
+  pub nested : IsNested (page_of message part)
   pub loads_sheet : loads (page_of message part) ≡ codes "/site.css" ∷ []
 
 -- what the words ask for of a message: something that is shown, something that isn't shown yet, or no such part

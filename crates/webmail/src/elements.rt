@@ -2,9 +2,9 @@
 ghost use Rattle.std.specs.Prelude.{◌≡◌, [], ◌∷◌, chars, OnOk, false};
 ghost use Rattle.html_tokens.specs.Token.Token.{Start};
 ghost use Rattle.page_writer.specs.Page.{MayStart};
-ghost use Rattle.html_rules.specs.Tokens.{shown_values};
-ghost use Rattle.page_writer.specs.Writer.{added};
-ghost use Rattle.html_rules.specs.Tokens.{plain};
+ghost use Rattle.html_rules.specs.Tokens.{replace_nulls};
+ghost use Rattle.page_writer.specs.Writer.{with_token};
+ghost use Rattle.html_rules.specs.Tokens.{start_tag};
 ghost use Rattle.html_rules.specs.Tables.{is_void};
 ghost use Rattle.webmail.specs.Frame.{with_tokens, element};
 
@@ -15,7 +15,7 @@ use std::alloc::Global;
 /// Opens an element without attributes.
 pub fn open(alloc: Global, out: &mut PageOut, name: &str) -> Result<(), Memory>
     requires { MayStart out.old.opened (chars name.now) [] }
-    ensures { OnOk result (out.new ≡ added out.old (plain (chars name.now))) }
+    ensures { OnOk result (out.new ≡ with_token out.old (start_tag (chars name.now))) }
 {
     out.start(alloc, name, &Attributes::new(alloc))
 }
@@ -29,7 +29,7 @@ pub fn open_with(
     value: &str,
 ) -> Result<(), Memory>
     requires { MayStart out.old.opened (chars name.now) (record { name = chars attribute.now; value = chars value.now } ∷ []) }
-    ensures { OnOk result (out.new ≡ added out.old (Start (chars name.now) (shown_values (record { name = chars attribute.now; value = chars value.now } ∷ [])))) }
+    ensures { OnOk result (out.new ≡ with_token out.old (Start (chars name.now) (replace_nulls (record { name = chars attribute.now; value = chars value.now } ∷ [])))) }
 {
     let mut attributes = Attributes::new(alloc);
     attributes.push(alloc, attribute, value)?;
@@ -45,7 +45,7 @@ pub fn open_with_two(
     second: (&str, &str),
 ) -> Result<(), Memory>
     requires { MayStart out.old.opened (chars name.now) (record { name = chars first.0.now; value = chars first.1.now } ∷ record { name = chars second.0.now; value = chars second.1.now } ∷ []) }
-    ensures { OnOk result (out.new ≡ added out.old (Start (chars name.now) (shown_values (record { name = chars first.entry.0.now; value = chars first.entry.1.now } ∷ record { name = chars second.entry.0.now; value = chars second.entry.1.now } ∷ [])))) }
+    ensures { OnOk result (out.new ≡ with_token out.old (Start (chars name.now) (replace_nulls (record { name = chars first.entry.0.now; value = chars first.entry.1.now } ∷ record { name = chars second.entry.0.now; value = chars second.entry.1.now } ∷ [])))) }
 {
     let mut attributes = Attributes::new(alloc);
     attributes.push(alloc, first.0, first.1)?;

@@ -2,11 +2,11 @@
 ghost use Rattle.std.specs.Prelude.{◌≡◌, ℕ, ◌<◌, ◌≤◌, List, [], ◌∷◌, ◌++◌, codes, chars, OnOk, false, IfOk, length, Some, IsTrue, string_bytes};
 ghost use Rattle.html_tokens.specs.Token.Token.{Start, End};
 ghost use Rattle.html_tokens.specs.Tokenizer.{tokens_of_bytes};
-ghost use Rattle.html_rules.specs.Nested.{Nested};
+ghost use Rattle.html_rules.specs.Nesting.{IsNested};
 ghost use Rattle.page_writer.specs.Page.{MayStart, takes_tags};
-ghost use Rattle.html_rules.specs.Tokens.{shown_values};
-ghost use Rattle.page_writer.specs.Writer.{added};
-ghost use Rattle.html_rules.specs.Tokens.{plain, with};
+ghost use Rattle.html_rules.specs.Tokens.{replace_nulls};
+ghost use Rattle.page_writer.specs.Writer.{with_token};
+ghost use Rattle.html_rules.specs.Tokens.{start_tag, start_tag_with};
 ghost use Rattle.html_rules.specs.Tables.{is_void};
 ghost use Rattle.header_words.specs.Fields.{header_of};
 ghost use Rattle.header_words.specs.Value.{decoded_of};
@@ -56,7 +56,7 @@ fn write_document_head(alloc: Global, out: &mut PageOut, title: &str) -> Result<
 #[tactic(auto, unfolding(page_writer::specs::Writing::literals))]
 fn write_style_link(alloc: Global, out: &mut PageOut) -> Result<(), Memory>
     requires { IsTrue (takes_tags out.old.opened) }
-    ensures { OnOk result (out.new ≡ added out.old style_link) }
+    ensures { OnOk result (out.new ≡ with_token out.old style_link) }
 {
     open_with_two(
         alloc,

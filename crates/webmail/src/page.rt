@@ -1,7 +1,7 @@
 //! The page of a message.
 ghost use Rattle.std.specs.Prelude.{◌≡◌, IfOk, OnOk, Some};
 ghost use Rattle.html_tokens.specs.Tokenizer.{tokens_of_bytes};
-ghost use Rattle.html_rules.specs.Nested.{Nested};
+ghost use Rattle.html_rules.specs.Nesting.{IsNested};
 ghost use Rattle.mime_tree.specs.Opening.{tree_of};
 ghost use Rattle.webmail.specs.Mail.{chosen};
 ghost use Rattle.webmail.specs.ShowPage.{page_of};
@@ -27,7 +27,7 @@ pub fn show_page(
     requires chosen { chosen tree.now part.now ≡ Some shown.now }
     ensures bytes { IfOk result (λ page. page.items ≡ page_bytes message.now part.now) }
     ensures reads { IfOk result (λ page. tokens_of_bytes page.items ≡ page_of message.now part.now) }
-    ensures nested { OnOk result (Nested (page_of message.now part.now)) }
+    ensures nested { OnOk result (IsNested (page_of message.now part.now)) }
 {
     let header = fields(alloc, message)?;
     let mut out = PageOut::new(alloc);

@@ -6,29 +6,29 @@ use Rattle.html_tokens.specs.Token.{Attribute, Token}
 use Rattle.html_tokens.specs.Token.Token.{Start, End, Char, Comment, Doctype}
 use Rattle.html_tokens.specs.Tokenizer.{same, has_name}
 use Rattle.html_rules.specs.Tables.{Name, is_message_element, is_void, is_listed_attribute}
-use Rattle.html_rules.specs.Values.{fits_attribute}
+use Rattle.html_rules.specs.Values.{is_value_of_attribute}
 
 -- the mark of a link that opens a page apart, which learns nothing of the page that it was opened from
-abbrev pub is_link_mark : Attribute → Bool
-is_link_mark a =
+abbrev pub is_link_protection : Attribute → Bool
+is_link_protection a =
     (same (codes "rel") a.name && same (codes "noopener noreferrer") a.value)
     || (same (codes "target") a.name && same (codes "_blank") a.value)
 
 -- an attribute that is listed for the element, with a value of its kind, or the mark of a link
 abbrev pub is_message_attribute : Bool → (List ℕ → Bool) → Name → Attribute → Bool
 is_message_attribute images own element a =
-    (is_listed_attribute element a.name && fits_attribute images own a.name a.value) || is_link_mark a
+    (is_listed_attribute element a.name && is_value_of_attribute images own a.name a.value) || is_link_protection a
 
 -- both marks stand with an `href`, and neither without one
-abbrev pub is_marked : List Attribute → Bool
-is_marked attributes =
+abbrev pub are_links_protected : List Attribute → Bool
+are_links_protected attributes =
     if has_name (codes "href") attributes then has_name (codes "rel") attributes && has_name (codes "target") attributes
     else not (has_name (codes "rel") attributes || has_name (codes "target") attributes)
 
 -- `images` says whether pictures of the web were asked for, `own` which addresses are the site's own pictures
 unfoldable pub is_message_token : Bool → (List ℕ → Bool) → Token → Bool
 is_message_token images own (Start name attributes) =
-    is_message_element name && list_all (is_message_attribute images own name) attributes && is_marked attributes
+    is_message_element name && list_all (is_message_attribute images own name) attributes && are_links_protected attributes
 is_message_token images own (End name) = is_message_element name && not (is_void name)
 is_message_token images own (Char c) = not (c == null)
 is_message_token images own (Comment text) = false
