@@ -7,4 +7,6 @@ pub mod Bytes
 pub mod Opening
 pub mod Adding
 pub mod Nesting
+pub mod Buffers
+pub mod Appending
 mod Examples
