@@ -1,8 +1,8 @@
 -- Values, tokens and pages that are allowed, and some that aren't, computed.
 use Rattle.std.proofs.Common.{◌≡◌, ℕ, Bool, true, false, inr, List, [], ◌∷◌, ◌++◌, map, codes, refl, Some, None, sym}
-use Rattle.html_tokens.specs.Token.{Attribute, Token}
-use Rattle.html_tokens.specs.Token.Token.{Start, End, Char, Doctype}
-use Rattle.html_tokens.specs.Tokenizer.{is_among, chars}
+use Rattle.html_syntax.specs.Token.{Attribute, Token}
+use Rattle.html_syntax.specs.Token.Token.{Start, End, Char, Doctype}
+use Rattle.html_syntax.specs.Tokenizer.{is_among, chars}
 use Rattle.page_writer.specs.Tables.{message_elements, frame_elements, message_voids, frame_voids, is_message_element, is_element, is_void, common_attributes, attribute_rows, is_listed_attribute, frame_attributes, is_frame_attribute, kind_of, kind_rows}
 use Rattle.page_writer.specs.Values.{is_number, is_word, is_remote, is_link, is_source, fits, fits_attribute}
 use Rattle.page_writer.specs.Page.{spell}

@@ -1,8 +1,8 @@
 -- A page that is being written: the tokens so far, and the elements that are open.
 use Rattle.std.specs.Prelude.{◌≡◌, ℕ, List, [], ◌∷◌, ◌++◌, map, reverse, chars, string_bytes, String, encode_utf8_all}
-use Rattle.html_tokens.specs.Token.{Attribute, Token}
-use Rattle.html_tokens.specs.Token.Token.{Char}
-use Rattle.html_tokens.specs.Tokenizer.{tokens_of_bytes, shown}
+use Rattle.html_syntax.specs.Token.{Attribute, Token}
+use Rattle.html_syntax.specs.Token.Token.{Char}
+use Rattle.html_syntax.specs.Tokenizer.{tokens_of_bytes, replace_null}
 use Rattle.page_writer.specs.Tables.{Name}
 use Rattle.page_writer.specs.Page.{inside_after, Leads, spell}
 
@@ -35,12 +35,12 @@ added_all page (t ∷ ts) = added_all (added page t) ts
 -- the characters of a text, U+0000 as U+FFFD
 abbrev pub shown_tokens : List ℕ → List Token
 shown_tokens [] = []
-shown_tokens (c ∷ cs) = Char (shown c) ∷ shown_tokens cs
+shown_tokens (c ∷ cs) = Char (replace_null c) ∷ shown_tokens cs
 
 -- the attributes with U+0000 in their values as U+FFFD
 abbrev pub shown_values : List Attribute → List Attribute
 shown_values [] = []
-shown_values (a ∷ rest) = record { name = a.name; value = map shown a.value } ∷ shown_values rest
+shown_values (a ∷ rest) = record { name = a.name; value = map replace_null a.value } ∷ shown_values rest
 
 -- the page with a text more
 abbrev pub with_text : Page → List ℕ → Page

@@ -1,8 +1,8 @@
 -- Words for functions that write a page by many calls.
 use Rattle.std.specs.Prelude.{List, ℕ, [], ◌∷◌}
 use Rattle.std.specs.Str.{chars}
-use Rattle.html_tokens.specs.Token.{Token}
-use Rattle.html_tokens.specs.Token.Token.{Start}
+use Rattle.html_syntax.specs.Token.{Token}
+use Rattle.html_syntax.specs.Token.Token.{Start}
 use Rattle.page_writer.specs.Tables.{Name, message_elements, frame_elements, message_voids, frame_voids, text_elements, is_element, is_void, is_text, common_attributes, attribute_rows, link_attributes, frame_attributes, is_attribute_name}
 
 -- a start tag without attributes

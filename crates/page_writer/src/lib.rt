@@ -7,17 +7,15 @@
 
 pub mod laws;
 mod spelling;
-#[cfg(test)]
-mod tests;
 
 ghost use Rattle.std.specs.Prelude.{◌≡◌, ℕ, ◌<◌, List, [], ◌∷◌, length, chars, encode_utf8_all, OnOk, OnErr, IsTrue};
-ghost use Rattle.html_tokens.specs.Token.Token.{Start, End, Doctype};
-ghost use Rattle.html_tokens.specs.Tokenizer.{tokens_of_bytes};
+ghost use Rattle.html_syntax.specs.Token.Token.{Start, End, Doctype};
+ghost use Rattle.html_syntax.specs.Tokenizer.{tokens_of_bytes};
 ghost use Rattle.page_writer.specs.Page.{spell, takes_tags, MayStart};
 ghost use Rattle.page_writer.specs.Writer.{added, with_text, shown_values, innermost};
 ghost use Rattle.page_writer.specs.Nested.{Nested};
 
-use html_tokens::Attributes;
+use html_syntax::Attributes;
 pub use laws::{
     allowed_pages_are_known, allowed_pages_have_one_mail, allowed_pages_load, pages_read_as_written,
 };

@@ -4,8 +4,8 @@ use Rattle.std.proofs.lemmas.Str.{chars-append}
 use Rattle.std.proofs.lemmas.Bool.{cases_Bool}
 use Rattle.std.specs.List.{list_all}
 use Rattle.std.specs.Str.{chars}
-use Rattle.html_tokens.specs.Token.{Token}
-use Rattle.html_tokens.specs.Token.Token.{End}
+use Rattle.html_syntax.specs.Token.{Token}
+use Rattle.html_syntax.specs.Token.Token.{End}
 use Rattle.page_writer.specs.Tables.{message_elements, frame_elements, message_voids, frame_voids, is_message_element, is_element, is_void, frame_attributes, is_frame_attribute}
 use Rattle.page_writer.specs.Writing.{plain, with}
 use Rattle.page_writer.specs.Nested.{open_after, Nested}
@@ -25,7 +25,7 @@ use Rattle.mime_tree.specs.Tree.{PartValue}
 use Rattle.webmail.specs.Frame.{text, element, document_start, document_head, document_end, style_link, field_row, found_row, row_of, field_rows, title_of, message_head, mail, frame_before, part_address, part_link, name_words, part_words, part_item, is_leaf, leaf_item, part_items, part_list, frame_after, line_end}
 use Rattle.webmail.specs.Mail.{chosen, plain_text, text_of_part, paragraph, unread_words, plain_part, unread_part, mail_of, mail_or_none}
 use Rattle.webmail.specs.ShowPage.{shown_of, page_of}
-use Rattle.html_tokens.specs.Tokenizer.{tokens_of_bytes, shown as shown_char}
+use Rattle.html_syntax.specs.Tokenizer.{tokens_of_bytes, replace_null as shown_char}
 use Rattle.webmail.specs.Run.{page_bytes, is_own, IsSafe}
 
 -- ---- the frame

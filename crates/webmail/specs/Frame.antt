@@ -1,8 +1,8 @@
 -- The frame around a shown message, as its tokens.
 use Rattle.std.specs.Prelude.{ℕ, Bool, not, ◌||◌, if◌then◌else◌, List, [], ◌∷◌, ◌++◌, codes, chars, decimal, length, Option, Some, None}
 use Rattle.std.specs.List.{flat_map}
-use Rattle.html_tokens.specs.Token.{Token}
-use Rattle.html_tokens.specs.Token.Token.{Start, End, Char, Doctype}
+use Rattle.html_syntax.specs.Token.{Token}
+use Rattle.html_syntax.specs.Token.Token.{Start, End, Char, Doctype}
 use Rattle.page_writer.specs.Tables.{Name}
 use Rattle.page_writer.specs.Writer.{Page, shown_tokens, shown_values}
 use Rattle.page_writer.specs.Writing.{plain, with}

@@ -1,5 +1,5 @@
 use Rattle.std.proofs.Common.{is_ok, chars, sym, subst, encode_utf8_all, ◌∷◌}
-use Rattle.html_tokens.specs.Token.Token.{Start}
+use Rattle.html_syntax.specs.Token.Token.{Start}
 use Rattle.page_writer.specs.Page.{MayStart, spell_token}
 use Rattle.page_writer.specs.Writer.{Page, names_of, shown_values}
 use Rattle.page_writer.proofs.Held.{on_ok, from_ok, start_may, spell_shown_start}
