@@ -5,6 +5,7 @@ ghost use Rattle.html_syntax.specs.States.{has_name};
 
 use crate::Memory;
 use std::alloc::Global;
+use std::fmt;
 use std::marker::Model;
 
 /// The attributes of a start tag in their order, seen as the list of their names and values. It keeps what is pushed, also a
@@ -88,5 +89,15 @@ impl Attributes {
         ensures { chars result.now ≡ value_at self.now index }
     {
         self.pairs[index].1.as_str()
+    }
+}
+
+/// Each name and value in quotes, after a space: ` "href"="x"`.
+impl fmt::Display for Attributes {
+    fn fmt<W: fmt::Write>(&self, f: &mut fmt::Formatter<W>) -> fmt::Result {
+        for (name, value) in &self.pairs {
+            write!(f, " {name:?}={value:?}")?;
+        }
+        Ok(())
     }
 }

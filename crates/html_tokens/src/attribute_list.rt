@@ -5,10 +5,10 @@ ghost use Rattle.html_syntax.specs.States.{has_name};
 ghost use Rattle.html_tokens.specs.Tags.{name_read, kept_among, attribute_at, GivesTag, ReadsUpTo};
 
 use crate::Memory;
-use html_syntax::Attributes;
 use crate::name_set::NameSet;
-use html_references::stretch::{ReadAs, read_stretch};
 use crate::tags::{AttributePlace, attribute, begins_attribute, gap};
+use html_references::stretch::{ReadAs, read_stretch};
+use html_syntax::Attributes;
 use mail_values::Text;
 use std::alloc::Global;
 use std::marker::Model;

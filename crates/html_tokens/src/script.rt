@@ -12,8 +12,8 @@ ghost use Rattle.html_tokens.specs.declared.mode.Content.TheVariants.{Script};
 
 use crate::cuts::place_of;
 use crate::mode::Content;
-use html_references::prefixes::begins_by;
 use crate::raw::{begins_named, closes};
+use html_references::prefixes::begins_by;
 use memchr::memchr2;
 
 /// How a script is read: as it stands, after a `<!--`, or after a `<script` in there.

@@ -14,9 +14,9 @@ use crate::markup::{Opening, empty_len, what_opens};
 use crate::mode::{Content, Mode, mode_after};
 use crate::raw::content_end;
 use crate::span::{Part, Span};
-use html_references::stretch::ReadAs;
 use crate::tags::{name_end, tag_end};
 use crate::text::{opens_markup, text_end};
+use html_references::stretch::ReadAs;
 
 /// A token's place, and how the text is read from which place after it.
 #[derive(Clone, Copy)]

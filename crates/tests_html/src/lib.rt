@@ -8,4 +8,6 @@ mod pages;
 #[cfg(test)]
 mod styles;
 #[cfg(test)]
+mod tables;
+#[cfg(test)]
 mod tokens;

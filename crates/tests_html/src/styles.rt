@@ -1,5 +1,5 @@
-use style_wash::wash_style;
 use std::test::Fail;
+use style_wash::wash_style;
 
 // What a style is washed into.
 const CASES: [(&str, &str); 48] = [

@@ -1,113 +1,106 @@
-use html_tokens::{Attributes, Memory, Scanner, Token, read_tokens};
+use crate::tables::more_prefixes::MORE_PREFIXES;
+use crate::tables::prefixes::PREFIXES;
+use crate::tables::tags::TAGS;
+use crate::tables::texts::TEXTS;
+use html_tokens::{Memory, Scanner, Token, read_tokens};
 use std::alloc::Global;
+use std::process::Abort;
 use std::test::Fail;
 
-// Tokens as a text: `<name|attribute=value>`, `</name>`, `{characters}`, `(comment)` and `!`.
-fn written(alloc: Global, tokens: &[Token]) -> Result<String, Memory> {
+// The tokens of a text, separated by spaces. Runs of characters that follow one another are one, as html5lib's are.
+fn tokens_of(alloc: Global, text: &str) -> Result<String, Memory> {
     let mut out = String::new(alloc);
-    for token in tokens {
-        push_written(alloc, &mut out, token)?;
+    let mut run = String::new(alloc);
+    for token in read_tokens(alloc, text)? {
+        if let Token::Chars(more) = &token {
+            run.push_str(more.as_str())?;
+        } else {
+            push_run(alloc, &mut out, &mut run)?;
+            push_token(&mut out, format!(in alloc; "{token}")?.as_str())?;
+        }
     }
+    push_run(alloc, &mut out, &mut run)?;
     Ok(out)
 }
 
-fn push_written(alloc: Global, out: &mut String, token: &Token) -> Result<(), Memory> {
-    match token {
-        Token::Start { name, attributes } => push_start(out, name.as_str(), attributes),
-        Token::End { name } => out.push_str(format!(in alloc; "</{}>", name.as_str())?.as_str()),
-        Token::Chars(text) => out.push_str(format!(in alloc; "{{{}}}", text.as_str())?.as_str()),
-        Token::Comment(text) => out.push_str(format!(in alloc; "({})", text.as_str())?.as_str()),
-        Token::Doctype => out.push_str("!"),
+fn push_run(alloc: Global, out: &mut String, run: &mut String) -> Result<(), Memory> {
+    if !run.is_empty() {
+        push_token(out, format!(in alloc; "Chars {run:?}")?.as_str())?;
+        run.clear();
     }
+    Ok(())
 }
 
-fn push_start(out: &mut String, name: &str, attributes: &Attributes) -> Result<(), Memory> {
-    out.push_str("<")?;
-    out.push_str(name)?;
-    for i in 0..attributes.len() {
-        out.push_str("|")?;
-        out.push_str(attributes.name(i))?;
-        out.push_str("=")?;
-        out.push_str(attributes.value(i))?;
+fn push_token(out: &mut String, token: &str) -> Result<(), Memory> {
+    if !out.is_empty() {
+        out.push(' ')?;
     }
-    out.push_str(">")
+    out.push_str(token)
 }
-
-// A text and its tokens.
-const ROWS: [(&str, &str); 16] = [
-    ("<title>a<b></title>c", "<title>{a<b>}</title>{c}"),
-    (
-        "<script><!--<script></script>x--></script>y",
-        "<script>{<!--<script></script>x-->}</script>{y}",
-    ),
-    ("a</>b</ c>d<?e>", "{a}{b}( c){d}(?e)"),
-    ("x<b y", "{x}"),
-    (
-        "<scr<script>ipt>x</script>y",
-        "<scr<script>{ipt>x}</script>{y}",
-    ),
-    (
-        "<img src=x onerror=alert(1)><IMG SRC=\"cid:top%40n\" src=\"http://e.example/\">",
-        "<img|src=x|onerror=alert(1)><img|src=cid:top%40n>",
-    ),
-    (
-        "<a href=\"jav&#9;ascript:1\">t</a><a href=\" HTTPS://E.example/a b\">u</a>",
-        "<a|href=jav\tascript:1>{t}</a><a|href= HTTPS://E.example/a b>{u}</a>",
-    ),
-    (
-        "</div></div><p>a<p>b<table><tr><td>1<td>2</table>",
-        "</div></div><p>{a}<p>{b}<table><tr><td>{1}<td>{2}</table>",
-    ),
-    (
-        "<scr<script>ipt>alert(1)</scr</script>ipt>",
-        "<scr<script>{ipt>alert(1)}</scr<>{ipt>}",
-    ),
-    (
-        "<a href=\"jav&#9;ascript:1\" HREF=x>t</a>",
-        "<a|href=jav\tascript:1>{t}</a>",
-    ),
-    ("<!--><b>x</b><!-- --!><i>y", "()<b>{x}</b>( )<i>{y}"),
-    (
-        "<b title='\"&gt;&notanentity; &copy=1'>&#13;&#0;&#128;</b>&notit;",
-        "<b|title=\">&notanentity; &copy=1>{\r\u{FFFD}\u{20AC}}</b>{\u{AC}it;}",
-    ),
-    ("<!DOCTYPE html>\r\na\rb<c d='\r\n'>", "!{\na\nb}<c|d=\n>"),
-    ("<style>&lt;</STYLE >&lt;", "<style>{&lt;}</style>{<}"),
-    ("<plaintext>a</plaintext>", "<plaintext>{a</plaintext>}"),
-    ("a < b<", "{a < b<}"),
-];
 
 #[test]
-fn texts_have_these_tokens(rt: HostRuntime) -> Result<(), Fail> {
-    let alloc = rt.alloc();
-    for (text, tokens) in ROWS {
+fn texts_have_the_tokens_that_html5lib_gives(rt: HostRuntime) -> Result<(), Fail> {
+    for (text, tokens) in TEXTS.iter().chain(&TAGS) {
         assert_eq!(rt;
-            written(alloc, &read_tokens(alloc, text)?)?.as_str(),
-            tokens
+            tokens_of(rt.alloc(), *text)?.as_str(),
+            *tokens,
+            "in {text:?}"
         );
+    }
+    Ok(())
+}
+
+// The tokens that a line gives: so many characters of the line before, and what comes after them.
+fn tokens_in(alloc: Global, before: &str, line: &str) -> Result<String, Fail> {
+    let (kept, more) = line.split_once('|').ok_or("a line without a bar")?;
+    let kept = kept.parse::<usize>().ok().ok_or("a line without a number")?;
+    let mut tokens = before.chars().take(kept).collect::<String>(alloc)?;
+    tokens.push_str(more)?;
+    Ok(tokens)
+}
+
+fn assert_prefixes(rt: &impl Abort, alloc: Global, text: &str, lines: &str) -> Result<(), Fail> {
+    let mut prefix = String::new(alloc);
+    let mut tokens = String::new(alloc);
+    let mut lines = lines.split('\n');
+    for c in text.chars() {
+        prefix.push(c)?;
+        let line = lines.next().ok_or("fewer lines than prefixes")?;
+        tokens = tokens_in(alloc, tokens.as_str(), line)?;
+        assert_eq!(rt;
+            tokens_of(alloc, prefix.as_str())?.as_str(),
+            tokens.as_str(),
+            "in {prefix:?}"
+        );
+    }
+    assert!(rt; lines.next().is_none());
+    Ok(())
+}
+
+#[test]
+fn prefixes_have_the_tokens_that_html5lib_gives(rt: HostRuntime) -> Result<(), Fail> {
+    for (text, lines) in PREFIXES.iter().chain(&MORE_PREFIXES) {
+        assert_prefixes(&rt, rt.alloc(), *text, *lines)?;
     }
     Ok(())
 }
 
 #[test]
 fn a_scanner_gives_spans_and_reads_them(rt: HostRuntime) -> Result<(), Fail> {
-    let mut scanner = Scanner::new("a<b>");
-    let run = scanner.next();
-    let tag = scanner.next();
-    assert!(rt; run.is_some());
-    assert!(rt; tag.is_some());
+    let mut scanner = Scanner::new("a</>b<i c=d>");
+    let first = scanner.next().ok_or("no span")?;
+    let second = scanner.next().ok_or("no span")?;
+    let tag = scanner.next().ok_or("no span")?;
     assert!(rt; scanner.next().is_none());
     assert!(rt; scanner.next().is_none());
-    Ok(())
-}
-
-#[test]
-fn a_tag_of_many_attributes_has_the_first_of_each_name(rt: HostRuntime) -> Result<(), Fail> {
-    let text = "<DIV\0 a=0 b c d e f g h i j k l m n o p q r s A=1 S=2 t=&amp;>";
-    let tokens = read_tokens(rt.alloc(), text)?;
-    assert_eq!(rt;
-        written(rt.alloc(), &tokens)?.as_str(),
-        "<div\u{FFFD}|a=0|b=|c=|d=|e=|f=|g=|h=|i=|j=|k=|l=|m=|n=|o=|p=|q=|r=|s=|t=&>"
-    );
+    let alloc = rt.alloc();
+    for (span, token) in [
+        (&first, r#"Chars "a""#),
+        (&second, r#"Chars "b""#),
+        (&tag, r#"Start "i" "c"="d""#),
+    ] {
+        let read = scanner.token(alloc, span)?;
+        assert_eq!(rt; format!(in alloc; "{read}")?.as_str(), token);
+    }
     Ok(())
 }
