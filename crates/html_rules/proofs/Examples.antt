@@ -1,8 +1,8 @@
 -- Values, tokens and pages that are allowed, and some that aren't, computed.
 use Rattle.std.proofs.Common.{◌≡◌, ℕ, Bool, true, false, inr, List, [], ◌∷◌, ◌++◌, map, codes, refl, Some, None, sym}
-use Rattle.html_tokens.specs.Token.{Attribute, Token}
-use Rattle.html_tokens.specs.Token.Token.{Start, End, Char, Doctype}
-use Rattle.html_tokens.specs.Tokenizer.{is_among}
+use Rattle.html_syntax.specs.Token.{Attribute, Token}
+use Rattle.html_syntax.specs.Token.Token.{Start, End, Char, Doctype}
+use Rattle.html_syntax.specs.Tokenizer.{is_among}
 use Rattle.html_rules.specs.Tables.{message_elements, frame_elements, message_void_elements, frame_void_elements, is_message_element, is_element, is_void, common_attributes, attribute_rows, is_listed_attribute, frame_attributes, is_frame_attribute_name, kind_of, value_kind_rows}
 use Rattle.html_rules.specs.Values.{is_number, is_word, is_remote, is_link, is_source, is_value_of, is_value_of_attribute}
 use Rattle.html_rules.specs.Tokens.{start_tag, start_tag_with}

@@ -1,7 +1,7 @@
 -- Facts about tests and names.
 use Rattle.std.proofs.Common.{◌≡◌, ℕ, Bool, true, false, not, ◌&&◌, ◌||◌, ◌==◌, List, [], ◌∷◌, IsTrue, refl, sym, eqb-true, eq-eqb}
 use Rattle.std.specs.List.{list_all}
-use Rattle.html_tokens.specs.Tokenizer.{is_among, same}
+use Rattle.html_syntax.specs.Tokenizer.{is_among, same}
 
 pub and_true : (a b : Bool) → (a && b) ≡ true → (a ≡ true) × (b ≡ true)
 and_true true b e = (refl, e)

@@ -1,10 +1,10 @@
 -- What the tables and tests must refuse, computed: a weaker table or test fails here.
 use Rattle.std.proofs.Common.{◌≡◌, ℕ, Bool, true, false, List, [], ◌∷◌, ◌++◌, length, map, codes, refl, None}
 use Rattle.std.specs.List.{list_any, flat_map}
-use Rattle.html_tokens.specs.References.{begins}
-use Rattle.html_tokens.specs.Token.{Attribute, Token}
-use Rattle.html_tokens.specs.Token.Token.{Start, End, Char, Comment, Doctype}
-use Rattle.html_tokens.specs.Tokenizer.{is_among}
+use Rattle.html_syntax.specs.References.{begins_with}
+use Rattle.html_syntax.specs.Token.{Attribute, Token}
+use Rattle.html_syntax.specs.Token.Token.{Start, End, Char, Comment, Doctype}
+use Rattle.html_syntax.specs.Tokenizer.{is_among}
 use Rattle.html_rules.specs.Tables.{Name, words, message_elements, frame_elements, message_void_elements, frame_void_elements, text_only_elements, dropped_elements, common_attributes, attribute_rows, link_attributes, frame_attributes, is_message_element, is_element, is_void, is_listed_attribute, is_frame_attribute_name, value_kind_rows, kind_of}
 use Rattle.html_rules.specs.Values.{is_remote, is_link, is_source, is_value_of, is_value_of_attribute}
 use Rattle.html_rules.specs.Tokens.{start_tag, start_tag_with}
@@ -20,7 +20,7 @@ all_attributes : List Name
 all_attributes = common_attributes ++ flat_map (λ r. r.attributes) attribute_rows ++ link_attributes ++ frame_attributes
 
 -- no attribute is an event handler
-no_handlers : list_any (begins (codes "on")) all_attributes ≡ false
+no_handlers : list_any (begins_with (codes "on")) all_attributes ≡ false
 unfolding all_attributes common_attributes attribute_rows link_attributes frame_attributes
 no_handlers = refl
 

@@ -2,9 +2,9 @@
 use Rattle.std.proofs.Common.{◌≡◌, ℕ, ◌+◌, ◌≤◌, Bool, true, false, not, ◌&&◌, ◌||◌, cond, inl, inr, List, [], ◌∷◌, ◌++◌, codes, refl, sym, ap, subst, ◌∙◌, arith}
 use Rattle.std.proofs.lemmas.List.Sums.{sum_by-append}
 use Rattle.std.specs.List.{list_all, list_any, count_by}
-use Rattle.html_tokens.specs.Token.{Attribute, Token}
-use Rattle.html_tokens.specs.Token.Token.{Start, End, Char, Comment, Doctype}
-use Rattle.html_tokens.specs.Tokenizer.{same}
+use Rattle.html_syntax.specs.Token.{Attribute, Token}
+use Rattle.html_syntax.specs.Token.Token.{Start, End, Char, Comment, Doctype}
+use Rattle.html_syntax.specs.Tokenizer.{same}
 use Rattle.html_rules.specs.Tables.{Name, is_element, message_elements, frame_elements, is_message_element, is_listed_attribute, common_attributes, attribute_rows}
 use Rattle.html_rules.specs.MessageTokens.{is_message_token, is_message, is_message_attribute, are_links_protected}
 use Rattle.html_rules.specs.FrameTokens.{is_frame_token, is_frame, opens_mail, has_class}

@@ -3,9 +3,9 @@ use Rattle.std.proofs.Common.{◌≡◌, ℕ, Bool, true, false, not, ◌&&◌, 
 use Rattle.std.proofs.lemmas.List.Folds.{list_all-append}
 use Rattle.std.proofs.lemmas.Grind.{flat_map-append}
 use Rattle.std.specs.List.{list_all, AllByRecursion}
-use Rattle.html_tokens.specs.Token.{Attribute, Token}
-use Rattle.html_tokens.specs.Token.Token.{Start, End, Char, Comment, Doctype}
-use Rattle.html_tokens.specs.Tokenizer.{same, shown}
+use Rattle.html_syntax.specs.Token.{Attribute, Token}
+use Rattle.html_syntax.specs.Token.Token.{Start, End, Char, Comment, Doctype}
+use Rattle.html_syntax.specs.Tokenizer.{same, replace_null}
 use Rattle.html_rules.specs.Tables.{Name, is_message_element, message_elements, is_frame_attribute_name, frame_attributes, is_listed_attribute, kind_of, value_kind_rows}
 use Rattle.html_rules.specs.Values.{is_source, is_value_of_attribute, is_value_of}
 use Rattle.html_rules.specs.Tokens.{text_tokens}
@@ -38,13 +38,13 @@ is_frame-text (c ∷ cs) = is_frame-text cs
 pub is_message-append : (images : Bool) (own : List ℕ → Bool) (xs ys : List Token) → is_message images own xs ≡ true → is_message images own ys ≡ true → is_message images own (xs ++ ys) ≡ true
 is_message-append images own xs ys g h = all_both (is_message_token images own) xs ys g h
 
-not_nul : (c : ℕ) → not (eqb (shown c) 0) ≡ true
+not_nul : (c : ℕ) → not (eqb (replace_null c) 0) ≡ true
 not_nul c = elim (eqb c 0) as (λ b. eqb c 0 ≡ b → not (eqb (cond b 0xFFFD c) 0) ≡ true) [ true ↦ λ e. refl | false ↦ λ e. rw e refl ] refl
 
 pub is_message-text : (images : Bool) (own : List ℕ → Bool) (cs : List ℕ) → is_message images own (text_tokens cs) ≡ true
 unfolding is_message_token
 is_message-text images own [] = refl
-is_message-text images own (c ∷ cs) = both_true (not (eqb (shown c) 0)) (is_message images own (text_tokens cs)) (not_nul c) (is_message-text images own cs)
+is_message-text images own (c ∷ cs) = both_true (not (eqb (replace_null c) 0)) (is_message images own (text_tokens cs)) (not_nul c) (is_message-text images own cs)
 
 -- ---- what is loaded
 

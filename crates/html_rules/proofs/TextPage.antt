@@ -1,8 +1,8 @@
 -- A page with texts in it that nobody knows beforehand, put together from its parts: an example for crates that prove theirs.
 use Rattle.std.specs.List.{list_all}
 use Rattle.std.proofs.Common.{◌≡◌, ℕ, Bool, true, inr, List, [], ◌∷◌, ◌++◌, codes, refl, ap, ◌∙◌, append_assoc}
-use Rattle.html_tokens.specs.Token.{Token}
-use Rattle.html_tokens.specs.Token.Token.{Start, End, Char, Doctype}
+use Rattle.html_syntax.specs.Token.{Token}
+use Rattle.html_syntax.specs.Token.Token.{Start, End, Char, Doctype}
 use Rattle.html_rules.specs.Tables.{message_elements, frame_elements, message_void_elements, frame_void_elements, is_message_element, is_element, is_void, frame_attributes, is_frame_attribute_name}
 use Rattle.html_rules.specs.Tokens.{text_tokens}
 use Rattle.html_rules.specs.Tokens.{start_tag, start_tag_with}

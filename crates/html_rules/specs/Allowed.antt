@@ -1,9 +1,9 @@
 -- The pages that may be shown to a member, and what they load.
 use Rattle.std.specs.Prelude.{◌≡◌, ◌≤◌, ℕ, Bool, ◌&&◌, ◌||◌, if◌then◌else◌, ◌⊎◌, List, [], ◌∷◌, ◌++◌, codes, IsTrue}
 use Rattle.std.specs.List.{list_all, flat_map, count_by, AllByRecursion}
-use Rattle.html_tokens.specs.Token.{Attribute, Token}
-use Rattle.html_tokens.specs.Token.Token.{Start, End}
-use Rattle.html_tokens.specs.Tokenizer.{same}
+use Rattle.html_syntax.specs.Token.{Attribute, Token}
+use Rattle.html_syntax.specs.Token.Token.{Start, End}
+use Rattle.html_syntax.specs.Tokenizer.{same}
 use Rattle.html_rules.specs.Tables.{Name}
 use Rattle.html_rules.specs.Values.{is_source}
 use Rattle.html_rules.specs.MessageTokens.{is_message_token, is_message}

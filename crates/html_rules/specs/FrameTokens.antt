@@ -1,10 +1,10 @@
 -- The tokens that the frame of a page may have: all that does not come from a message.
 use Rattle.std.specs.Prelude.{ℕ, Bool, true, false, not, ◌&&◌, ◌||◌, ◌==◌, if◌then◌else◌, List, [], ◌∷◌, codes}
 use Rattle.std.specs.List.{list_all, list_any}
-use Rattle.html_tokens.specs.Characters.{tabulation, line_feed, carriage_return, solidus}
-use Rattle.html_tokens.specs.Token.{Attribute, Token}
-use Rattle.html_tokens.specs.Token.Token.{Start, End, Char, Comment, Doctype}
-use Rattle.html_tokens.specs.Tokenizer.{same, is_among}
+use Rattle.html_syntax.specs.Characters.{tabulation, line_feed, carriage_return, solidus}
+use Rattle.html_syntax.specs.Token.{Attribute, Token}
+use Rattle.html_syntax.specs.Token.Token.{Start, End, Char, Comment, Doctype}
+use Rattle.html_syntax.specs.Tokenizer.{same, is_among}
 use Rattle.html_rules.specs.Tables.{Name, words, is_element, is_frame_attribute_name}
 
 abbrev pub reverse_solidus : ℕ

@@ -1,10 +1,10 @@
 -- The tokens that a message may have.
 use Rattle.std.specs.Prelude.{ℕ, Bool, false, not, ◌&&◌, ◌||◌, ◌==◌, if◌then◌else◌, List, codes}
 use Rattle.std.specs.List.{list_all}
-use Rattle.html_tokens.specs.Characters.{null}
-use Rattle.html_tokens.specs.Token.{Attribute, Token}
-use Rattle.html_tokens.specs.Token.Token.{Start, End, Char, Comment, Doctype}
-use Rattle.html_tokens.specs.Tokenizer.{same, has_name}
+use Rattle.html_syntax.specs.Characters.{null}
+use Rattle.html_syntax.specs.Token.{Attribute, Token}
+use Rattle.html_syntax.specs.Token.Token.{Start, End, Char, Comment, Doctype}
+use Rattle.html_syntax.specs.Tokenizer.{same, has_name}
 use Rattle.html_rules.specs.Tables.{Name, is_message_element, is_void, is_listed_attribute}
 use Rattle.html_rules.specs.Values.{is_value_of_attribute}
 

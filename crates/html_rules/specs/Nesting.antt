@@ -1,8 +1,8 @@
 -- Pages whose elements are nested.
 use Rattle.std.specs.Prelude.{◌≡◌, List, [], ◌∷◌, Option, Some, None, if◌then◌else◌}
-use Rattle.html_tokens.specs.Token.{Token}
-use Rattle.html_tokens.specs.Token.Token.{Start, End}
-use Rattle.html_tokens.specs.Tokenizer.{same}
+use Rattle.html_syntax.specs.Token.{Token}
+use Rattle.html_syntax.specs.Token.Token.{Start, End}
+use Rattle.html_syntax.specs.Tokenizer.{same}
 use Rattle.html_rules.specs.Tables.{Name, is_void}
 
 -- The elements that are open after the tokens, the innermost first, where these were open before: a start tag opens its

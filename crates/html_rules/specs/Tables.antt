@@ -1,7 +1,7 @@
 -- The elements and attributes of pages. Each list stands here and nowhere else, a row a line.
 use Rattle.std.specs.Prelude.{ℕ, Bool, true, false, ◌&&◌, ◌||◌, ◌==◌, if◌then◌else◌, Option, Some, None, List, [], ◌∷◌, ◌++◌, codes}
 use Rattle.std.specs.List.{list_any, flat_map}
-use Rattle.html_tokens.specs.Tokenizer.{is_among}
+use Rattle.html_syntax.specs.Tokenizer.{is_among}
 use Rattle.html_rules.specs.declared.ValueKind.{ValueKind}
 use Rattle.html_rules.specs.declared.ValueKind.TheVariants.{Number, Word, Flag, Text, Link, Source, Style}
 

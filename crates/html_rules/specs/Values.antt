@@ -1,8 +1,8 @@
 -- The values that the attributes of a message may have.
 use Rattle.std.specs.Prelude.{ℕ, zero, suc, Bool, true, false, not, ◌&&◌, ◌||◌, ◌==◌, nat_le, if◌then◌else◌, Option, Some, None, List, [], ◌∷◌, length, codes}
 use Rattle.std.specs.List.{list_all}
-use Rattle.html_tokens.specs.Characters.{null, space, hyphen, number_sign, is_between, is_digit, is_letter}
-use Rattle.html_tokens.specs.References.{begins}
+use Rattle.html_syntax.specs.Characters.{null, space, hyphen, number_sign, is_between, is_digit, is_letter}
+use Rattle.html_syntax.specs.References.{begins_with}
 use Rattle.html_rules.specs.Tables.{Name, kind_of}
 use Rattle.html_rules.specs.declared.ValueKind.{ValueKind}
 use Rattle.html_rules.specs.declared.ValueKind.TheVariants.{Number, Word, Flag, Text, Link, Source, Style}
@@ -50,11 +50,11 @@ is_address_char c = not (is_between null space c || is_between 0x7F 0x9F c)
 
 -- an address of the web
 unfoldable pub is_remote : List ℕ → Bool
-is_remote value = (begins (codes "http://") value || begins (codes "https://") value) && list_all is_address_char value
+is_remote value = (begins_with (codes "http://") value || begins_with (codes "https://") value) && list_all is_address_char value
 
 -- an address to which a click may lead
 unfoldable pub is_link : List ℕ → Bool
-is_link value = is_remote value || (begins (codes "mailto:") value && list_all is_address_char value)
+is_link value = is_remote value || (begins_with (codes "mailto:") value && list_all is_address_char value)
 
 -- an address from which a picture may be loaded: one of the site's own, or one of the web where pictures were asked for
 unfoldable pub is_source : Bool → (List ℕ → Bool) → List ℕ → Bool

@@ -1,8 +1,8 @@
 -- Pages to which many tokens are added, for functions that write a part of a page.
 use Rattle.std.proofs.Common.{◌≡◌, ℕ, List, [], ◌∷◌, ◌++◌, refl, sym, ap, ◌∙◌, append_assoc, append-nil}
-use Rattle.html_tokens.specs.Token.{Token}
-use Rattle.html_tokens.specs.Token.Token.{Char}
-use Rattle.html_tokens.specs.Tokenizer.{shown}
+use Rattle.html_syntax.specs.Token.{Token}
+use Rattle.html_syntax.specs.Token.Token.{Char}
+use Rattle.html_syntax.specs.Tokenizer.{replace_null}
 use Rattle.html_rules.specs.Tokens.{text_tokens}
 use Rattle.page_writer.specs.Writer.{Page, with_token, with_all_tokens, with_text}
 
@@ -19,5 +19,5 @@ added_all-written page (t ∷ ts) = added_all-written (with_token page t) ts ∙
 pub added_all-text : (page : Page) (cs : List ℕ) → with_all_tokens page (text_tokens cs) ≡ with_text page cs
 added_all-text page [] = ap (λ (ts : List Token). record { written = ts; opened = page.opened }) (sym (append-nil page.written))
 added_all-text page (c ∷ cs) =
-    added_all-text (with_token page (Char (shown c))) cs
-    ∙ ap (λ (ts : List Token). record { written = ts; opened = page.opened }) (append_assoc page.written (Char (shown c) ∷ []) (text_tokens cs))
+    added_all-text (with_token page (Char (replace_null c))) cs
+    ∙ ap (λ (ts : List Token). record { written = ts; opened = page.opened }) (append_assoc page.written (Char (replace_null c) ∷ []) (text_tokens cs))

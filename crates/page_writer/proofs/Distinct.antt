@@ -1,8 +1,8 @@
 -- Attributes whose names differ, as the tokenizer meets them one after the other.
 use Rattle.std.proofs.Common.{◌≡◌, ℕ, true, false, not, List, [], ◌∷◌, ◌++◌, IsTrue, refl, sym, ap, ◌∙◌, append_assoc}
 use Rattle.std.specs.List.{AllByRecursion}
-use Rattle.html_tokens.specs.Token.{Attribute}
-use Rattle.html_tokens.specs.Tokenizer.{has_name, same}
+use Rattle.html_syntax.specs.Token.{Attribute}
+use Rattle.html_syntax.specs.Tokenizer.{has_name, same}
 use Rattle.html_rules.specs.Tables.{is_attribute_name}
 use Rattle.page_writer.specs.Page.{IsWritable, are_attributes, are_distinct}
 use Rattle.html_rules.proofs.Facts.{and_true, no_of, or_false, same-true, same-refl}

@@ -1,7 +1,7 @@
 -- A page and its spelling, computed.
 use Rattle.std.proofs.Common.{◌≡◌, [], ◌∷◌, ◌++◌, codes, refl}
-use Rattle.html_tokens.specs.Token.Token.{End, Doctype}
-use Rattle.html_tokens.specs.Tokenizer.{chars}
+use Rattle.html_syntax.specs.Token.Token.{End, Doctype}
+use Rattle.html_syntax.specs.Tokenizer.{chars}
 use Rattle.page_writer.specs.Page.{spell}
 use Rattle.html_rules.specs.Tokens.{start_tag, start_tag_with}
 

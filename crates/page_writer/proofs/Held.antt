@@ -2,9 +2,9 @@
 use Rattle.std.proofs.Common.{◌≡◌, ℕ, Bool, true, false, eqb, cond, ◌&&◌, ◌||◌, List, [], ◌∷◌, ◌++◌, map, eqb-true, refl, sym, ap, subst, ◌∙◌, append_assoc, append-nil, encode_utf8_all, codes, chars, IsUtf8, Result, Ok, Err, is_ok, OnOk}
 use Rattle.std.proofs.lemmas.Str.{encodes-append, scalars-chars}
 use lib.Utf8.{scalar, scalars, encode}
-use Rattle.html_tokens.specs.Token.{Attribute, Token}
-use Rattle.html_tokens.specs.Token.Token.{Start, Doctype}
-use Rattle.html_tokens.specs.Tokenizer.{tokens_of_bytes, has_name, same, shown}
+use Rattle.html_syntax.specs.Token.{Attribute, Token}
+use Rattle.html_syntax.specs.Token.Token.{Start, Doctype}
+use Rattle.html_syntax.specs.Tokenizer.{tokens_of_bytes, has_name, same, replace_null}
 use Rattle.page_writer.specs.Page.{IsWritable, spell, spell_char, spell_chars, spell_attributes, spell_token, are_attributes, are_distinct, MayStart, MayAppend, open_elements_after_token, MayAppendAll}
 use Rattle.page_writer.specs.Bytes.{AreTexts}
 use Rattle.html_rules.specs.Tables.{Name, is_attribute_name}
@@ -52,10 +52,10 @@ adds bytes inside t held may =
     (adds_all bytes inside (t ∷ []) (open_elements_after_token inside t) held (may, refl))
 
 -- text
-shown_is : (c : ℕ) → scalar c ≡ true → IsWritable (shown c)
+shown_is : (c : ℕ) → scalar c ≡ true → IsWritable (replace_null c)
 shown_is c h = elim (eqb c 0) as (λ b. eqb c 0 ≡ b → IsWritable (cond b 0xFFFD c)) [ true ↦ λ e. (refl, refl) | false ↦ λ e. (rw e refl, h) ] refl
 
-spell_shown : (c : ℕ) → spell_char (shown c) ≡ spell_char c
+spell_shown : (c : ℕ) → spell_char (replace_null c) ≡ spell_char c
 spell_shown c = elim (eqb c 0) as (λ b. eqb c 0 ≡ b → spell_char (cond b 0xFFFD c) ≡ spell_char c) [ true ↦ λ e. rw (eqb-true c 0 e) refl | false ↦ λ e. refl ] refl
 
 pub text_leads : (inside : List (List ℕ)) (cs : List ℕ) → scalars cs ≡ true → MayAppendAll inside (text_tokens cs) inside
@@ -69,7 +69,7 @@ spell_text [] = refl
 spell_text (c ∷ cs) = rw (spell_shown c, spell_text cs) refl
 
 -- attributes
-spell_shown_chars : (cs : List ℕ) → spell_chars (map shown cs) ≡ spell_chars cs
+spell_shown_chars : (cs : List ℕ) → spell_chars (map replace_null cs) ≡ spell_chars cs
 spell_shown_chars [] = refl
 spell_shown_chars (c ∷ cs) = rw (spell_shown c, spell_shown_chars cs) refl
 
@@ -89,7 +89,7 @@ shown_distinct : (attributes : List Attribute) → are_distinct (replace_nulls a
 shown_distinct [] = refl
 shown_distinct (a ∷ rest) = rw (shown_has_name a.name rest, shown_distinct rest) refl
 
-shown_value : (cs : List ℕ) → scalars cs ≡ true → AllByRecursion IsWritable (map shown cs)
+shown_value : (cs : List ℕ) → scalars cs ≡ true → AllByRecursion IsWritable (map replace_null cs)
 shown_value [] h = tt
 shown_value (c ∷ cs) h = let both = and_true (scalar c) (scalars cs) h in (shown_is c both.0, shown_value cs both.1)
 

@@ -4,12 +4,12 @@ use Rattle.std.proofs.lemmas.Bool.Decides.{nat_tests}
 use Rattle.std.proofs.lemmas.Str.{utf8_lossy-IsUtf8, chars-encodes}
 use lib.Utf8.{scalar, scalars, encodes}
 use Rattle.std.specs.List.{list_all, AllByRecursion}
-use Rattle.html_tokens.specs.Token.{Attribute, Token}
-use Rattle.html_tokens.specs.Token.Token.{Start, End, Char, Comment, Doctype}
-use Rattle.html_tokens.specs.Tokenizer.{State, at_end, read, after_start, is_among, same, raw_names, newlines, tokens, tokens_of_bytes}
-use Rattle.html_tokens.specs.Tokenizer.Kind.{Rcdata}
-use Rattle.html_tokens.specs.Tokenizer.State.{Data, Raw}
-use Rattle.html_tokens.specs.References.{is_between}
+use Rattle.html_syntax.specs.Token.{Attribute, Token}
+use Rattle.html_syntax.specs.Token.Token.{Start, End, Char, Comment, Doctype}
+use Rattle.html_syntax.specs.Tokenizer.{State, tokens_at_end, read, state_after_start, is_among, same, raw_names, normalize_newlines, tokens, tokens_of_bytes}
+use Rattle.html_syntax.specs.Tokenizer.RawTextKind.{Rcdata}
+use Rattle.html_syntax.specs.Tokenizer.State.{Data, Raw}
+use Rattle.html_syntax.specs.References.{is_between}
 use Rattle.page_writer.specs.Page.{IsWritable, spell_char, spell_chars, spell_attribute, spell_attributes, spell_token, spell, takes_tags, MayAppend, open_elements_after_token, MayAppendAll}
 use Rattle.html_rules.specs.Tables.{is_element, is_text_only, is_void, message_elements, frame_elements, text_only_elements, message_void_elements, frame_void_elements}
 use Rattle.page_writer.proofs.Distinct.{AreAttributes, attributes_of}
@@ -33,7 +33,7 @@ in_data [] h = refl
 in_data (name ∷ names) h = rw (no_of (is_text_only name) h) refl
 
 nothing_at_end : (inside : List (List ℕ)) → read (state_in inside) 0 [] ≡ []
-unfolding at_end read
+unfolding tokens_at_end read
 nothing_at_end [] = refl
 nothing_at_end (name ∷ names) = elim (is_text_only name) as (λ b. read (cond b (Raw Rcdata name) Data) 0 [] ≡ []) [ true ↦ refl | false ↦ refl ]
 
@@ -45,7 +45,7 @@ not_raw : (name : List ℕ) → is_element name ≡ true → isnt_raw name ≡ t
 unfolding is_element message_elements frame_elements is_text_only text_only_elements is_void message_void_elements frame_void_elements
 not_raw name h = among_all isnt_raw (message_elements ++ frame_elements) name refl h
 
-state_after : (name : List ℕ) → is_element name ≡ true → after_start name ≡ cond (is_text_only name) (Raw Rcdata name) Data
+state_after : (name : List ℕ) → is_element name ≡ true → state_after_start name ≡ cond (is_text_only name) (Raw Rcdata name) Data
 unfolding is_text_only text_only_elements
 state_after name h =
     let a = and_true (not (is_among raw_names name)) _ (not_raw name h) in
@@ -65,9 +65,9 @@ void_isnt_text name h v =
     not_both (is_void name) (is_text_only name) c.1 v
 
 -- the state after a start tag, and that the stack stays one
-opens : (inside : List (List ℕ)) (name : List ℕ) → is_element name ≡ true → IsTrue (takes_tags inside) → IsStack inside → (after_start name ≡ state_in (cond (is_void name) inside (name ∷ inside))) × IsStack (cond (is_void name) inside (name ∷ inside))
+opens : (inside : List (List ℕ)) (name : List ℕ) → is_element name ≡ true → IsTrue (takes_tags inside) → IsStack inside → (state_after_start name ≡ state_in (cond (is_void name) inside (name ∷ inside))) × IsStack (cond (is_void name) inside (name ∷ inside))
 opens inside name h takes stack =
-    elim (is_void name) as (λ b. is_void name ≡ b → (after_start name ≡ state_in (cond b inside (name ∷ inside))) × IsStack (cond b inside (name ∷ inside))) [
+    elim (is_void name) as (λ b. is_void name ≡ b → (state_after_start name ≡ state_in (cond b inside (name ∷ inside))) × IsStack (cond b inside (name ∷ inside))) [
       | true ↦ λ v. (state_after name h ∙ ap (λ (b : Bool). cond b (Raw Rcdata name) Data) (void_isnt_text name h v) ∙ sym (in_data inside takes), stack)
       | false ↦ λ v. (state_after name h, (takes, stack))
     ] refl
@@ -192,8 +192,8 @@ unfolding spell MayAppendAll
 spell_page inside [] after h = refl
 spell_page inside (t ∷ ts) after h = all_append (spell_token t) (spell ts) (token_page inside t h.0) (spell_page (open_elements_after_token inside t) ts after h.1)
 
-no_newline : (cs : List ℕ) → page_chars cs ≡ true → newlines false cs ≡ cs
-unfolding newlines
+no_newline : (cs : List ℕ) → page_chars cs ≡ true → normalize_newlines false cs ≡ cs
+unfolding normalize_newlines
 no_newline [] h = refl
 no_newline (c ∷ cs) h =
     let both = and_true (page_char c) (page_chars cs) h in

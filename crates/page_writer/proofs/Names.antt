@@ -3,8 +3,8 @@ use Rattle.std.proofs.Common.{◌≡◌, ℕ, ◌<◌, Bool, true, false, ◌&&�
 use Rattle.std.proofs.lemmas.Bool.{cases_eq}
 use Rattle.std.proofs.lemmas.Bool.Decides.{nat_tests}
 use Rattle.std.specs.List.{list_all, flat_map}
-use Rattle.html_tokens.specs.References.{is_between, is_letter, is_digit}
-use Rattle.html_tokens.specs.Tokenizer.{is_space, lower}
+use Rattle.html_syntax.specs.References.{is_between, is_letter, is_digit}
+use Rattle.html_syntax.specs.Tokenizer.{is_space, lower}
 use Rattle.html_rules.specs.Tables.{is_element, message_elements, frame_elements, is_attribute_name, common_attributes, attribute_rows, link_attributes, frame_attributes}
 use Rattle.html_rules.proofs.Facts.{among_all}
 

@@ -1,7 +1,7 @@
 -- What a writer holds is nested.
 use Rattle.std.proofs.Common.{◌≡◌, true, false, cond, List, [], ◌∷◌, Some, ap}
-use Rattle.html_tokens.specs.Token.{Token}
-use Rattle.html_tokens.specs.Token.Token.{Start, End, Char, Comment, Doctype}
+use Rattle.html_syntax.specs.Token.{Token}
+use Rattle.html_syntax.specs.Token.Token.{Start, End, Char, Comment, Doctype}
 use Rattle.html_rules.specs.Tables.{Name, is_void}
 use Rattle.page_writer.specs.Page.{MayAppendAll}
 use Rattle.html_rules.specs.Nesting.{open_elements_after}

@@ -3,10 +3,10 @@ use Rattle.std.proofs.Common.{◌≡◌, ℕ, ◌<◌, Bool, true, false, cond, 
 use Rattle.std.proofs.lemmas.List.{reverse-append, map-append, length-reverse, length-map}
 use Rattle.std.proofs.lemmas.Str.{encodes-chars, encode_ascii}
 use lib.Utf8.{encodes}
-use Rattle.html_tokens.specs.Token.{Token, Attribute}
-use Rattle.html_tokens.specs.Token.Token.{Start, End, Char, Comment, Doctype}
-use Rattle.html_tokens.specs.Tokenizer.{tokens_of_bytes}
-use Rattle.html_tokens.specs.References.{is_between}
+use Rattle.html_syntax.specs.Token.{Token, Attribute}
+use Rattle.html_syntax.specs.Token.Token.{Start, End, Char, Comment, Doctype}
+use Rattle.html_syntax.specs.Tokenizer.{tokens_of_bytes}
+use Rattle.html_syntax.specs.References.{is_between}
 use Rattle.html_rules.specs.Tables.{is_element, is_void}
 use Rattle.page_writer.specs.Page.{spell_token, MayAppend, outer, open_elements_after_token, MayAppendAll}
 use Rattle.page_writer.specs.Writer.{Page, page_of, names_of, with_token, IsPagePrefix, innermost}

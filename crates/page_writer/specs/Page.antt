@@ -2,10 +2,10 @@
 use Rattle.std.specs.Prelude.{◌≡◌, ℕ, Bool, true, false, not, ◌&&◌, ◌==◌, if◌then◌else◌, List, [], ◌∷◌, ◌++◌, codes, encode_utf8_all, IsTrue}
 use Rattle.std.specs.List.{AllByRecursion, list_all}
 use Rattle.std.specs.Char.{IsScalar}
-use Rattle.html_tokens.specs.Characters.{null, carriage_return, space, quotation_mark, ampersand, solidus, less_than, greater_than, replacement}
-use Rattle.html_tokens.specs.Token.{Attribute, Token}
-use Rattle.html_tokens.specs.Token.Token.{Start, End, Char, Comment, Doctype}
-use Rattle.html_tokens.specs.Tokenizer.{has_name, same, tokens_of_bytes}
+use Rattle.html_syntax.specs.Characters.{null, carriage_return, space, quotation_mark, ampersand, solidus, less_than, greater_than, replacement}
+use Rattle.html_syntax.specs.Token.{Attribute, Token}
+use Rattle.html_syntax.specs.Token.Token.{Start, End, Char, Comment, Doctype}
+use Rattle.html_syntax.specs.Tokenizer.{has_name, same, tokens_of_bytes}
 use Rattle.html_rules.specs.Tables.{Name, is_element, is_void, is_text_only, is_attribute_name}
 
 -- ---- spelling (HTML Standard, 13.1 and 13.3)

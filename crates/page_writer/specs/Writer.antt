@@ -1,7 +1,7 @@
 -- A page that is being written: the tokens so far, and the elements that are open.
 use Rattle.std.specs.Prelude.{◌≡◌, ℕ, List, [], ◌∷◌, ◌++◌, map, reverse, chars, string_bytes, String, encode_utf8_all}
-use Rattle.html_tokens.specs.Token.{Token}
-use Rattle.html_tokens.specs.Tokenizer.{tokens_of_bytes}
+use Rattle.html_syntax.specs.Token.{Token}
+use Rattle.html_syntax.specs.Tokenizer.{tokens_of_bytes}
 use Rattle.html_rules.specs.Tables.{Name}
 use Rattle.html_rules.specs.Tokens.{text_tokens}
 use Rattle.page_writer.specs.Page.{open_elements_after_token, MayAppendAll, spell}

@@ -3,14 +3,14 @@
 //! A character may take six bytes of markup, so that a page is up to six times as long as its texts. Only short texts are
 //! spelled in memory.
 ghost use Rattle.std.specs.Prelude.{◌≡◌, [], ◌++◌, chars, encode_utf8_all, string_bytes, OnOk, is_ok, if◌then◌else◌};
-ghost use Rattle.html_tokens.specs.Token.Token.{Start, End};
+ghost use Rattle.html_syntax.specs.Token.Token.{Start, End};
 ghost use Rattle.page_writer.specs.Page.{spell_chars, spell_token};
 ghost use Rattle.page_writer.specs.Bytes.{AreTexts};
 ghost use Rattle.page_writer.specs.Written.{segment_bytes};
 ghost use Rattle.std.specs.List.{concat};
 
 use crate::{Memory, spelling};
-use html_tokens::Attributes;
+use html_syntax::Attributes;
 use std::alloc::Global;
 use std::marker::Model;
 use std::mem;

@@ -14,8 +14,8 @@ ghost use Rattle.std.specs.Prelude.{◌≡◌, ℕ, ◌<◌, List, [], ◌∷◌
 ghost use Rattle.page_writer.specs.Page.{spell_token};
 ghost use Rattle.page_writer.specs.Writer.{names_of};
 ghost use Rattle.page_writer.specs.Bytes.{AreTexts};
-ghost use Rattle.html_tokens.specs.Token.Token.{Start, End, Doctype};
-ghost use Rattle.html_tokens.specs.Tokenizer.{tokens_of_bytes};
+ghost use Rattle.html_syntax.specs.Token.Token.{Start, End, Doctype};
+ghost use Rattle.html_syntax.specs.Tokenizer.{tokens_of_bytes};
 ghost use Rattle.page_writer.specs.Page.{spell, takes_tags, MayStart};
 ghost use Rattle.html_rules.specs.Tokens.{replace_nulls};
 ghost use Rattle.page_writer.specs.Writer.{with_token, with_text, innermost};
@@ -23,7 +23,7 @@ ghost use Rattle.html_rules.specs.Nesting.{IsNested};
 
 pub use buffer::PageBytes;
 use html_rules::is_void;
-use html_tokens::Attributes;
+use html_syntax::Attributes;
 pub use laws::pages_read_as_written;
 pub use sending::{WRITE_ROOM, write_page};
 pub use std::alloc::AllocError as Memory;

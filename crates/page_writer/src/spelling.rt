@@ -5,12 +5,12 @@
 
 ghost use Rattle.std.specs.Prelude.{◌≡◌, ℕ, ◌<◌, ◌≤◌, List, [], ◌∷◌, ◌++◌, ◌+◌, ◌*◌, length, take, chars, encode_utf8_all, string_bytes, vec_len, vec_capacity, OnOk, OnErr, IsOk, is_ok, if◌then◌else◌, IsTrue};
 ghost use Rattle.page_writer.specs.Writer.{names_of};
-ghost use Rattle.html_tokens.specs.Token.Token.{Start, End};
+ghost use Rattle.html_syntax.specs.Token.Token.{Start, End};
 ghost use Rattle.page_writer.specs.Page.{spell_chars, spell_attributes, spell_token};
 ghost use Rattle.page_writer.specs.Bytes.{spell_byte, spell_bytes, attribute_bytes, Extends, AreTexts};
 
 use crate::Memory;
-use html_tokens::Attributes;
+use html_syntax::Attributes;
 use memchr::memchr3;
 use std::alloc::Global;
 

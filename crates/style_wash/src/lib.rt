@@ -13,6 +13,3 @@ mod values;
 
 pub use declarations::wash_style;
 pub use std::alloc::AllocError as Memory;
-
-#[cfg(test)]
-mod tests;

@@ -4,9 +4,9 @@ use lib.Utf8.{encode}
 use Rattle.std.specs.Str.{IsUtf8, chars, is_utf8}
 use Rattle.std.proofs.lemmas.List.{append-nil}
 use Rattle.std.proofs.lemmas.Str.{IsUtf8-from_is_utf8, chars-append}
-use Rattle.html_tokens.specs.Token.{Token}
-use Rattle.html_tokens.specs.Token.Token.{Char}
-use Rattle.html_tokens.specs.Tokenizer.{shown}
+use Rattle.html_syntax.specs.Token.{Token}
+use Rattle.html_syntax.specs.Token.Token.{Char}
+use Rattle.html_syntax.specs.Tokenizer.{replace_null}
 use Rattle.html_rules.specs.Tokens.{text_tokens}
 use Rattle.page_writer.specs.Writer.{Page}
 use Rattle.std.specs.List.{position_or_len}
@@ -21,7 +21,7 @@ use Rattle.webmail.specs.Gathered.{Gathers}
 
 shown-append : (xs ys : List ℕ) → text_tokens (xs ++ ys) ≡ text_tokens xs ++ text_tokens ys
 shown-append [] ys = refl
-shown-append (x ∷ xs) ys = ap (λ ts. Char (shown x) ∷ ts) (shown-append xs ys)
+shown-append (x ∷ xs) ys = ap (λ ts. Char (replace_null x) ∷ ts) (shown-append xs ys)
 
 pub text-nil : text [] ≡ []
 unfolding chars

@@ -4,8 +4,8 @@ use Rattle.std.proofs.lemmas.Str.{chars-append}
 use Rattle.std.proofs.lemmas.Bool.{cases_Bool}
 use Rattle.std.specs.List.{list_all}
 use Rattle.std.specs.Str.{chars}
-use Rattle.html_tokens.specs.Token.{Token}
-use Rattle.html_tokens.specs.Token.Token.{End}
+use Rattle.html_syntax.specs.Token.{Token}
+use Rattle.html_syntax.specs.Token.Token.{End}
 use Rattle.html_rules.specs.Tables.{message_elements, frame_elements, message_void_elements, frame_void_elements, is_message_element, is_element, is_void, frame_attributes, is_frame_attribute_name}
 use Rattle.html_rules.specs.Tokens.{start_tag, start_tag_with}
 use Rattle.html_rules.specs.Nesting.{open_elements_after, IsNested}
@@ -25,7 +25,7 @@ use Rattle.mime_tree.specs.Tree.{PartValue}
 use Rattle.webmail.specs.Frame.{text, element, document_start, document_head, document_end, style_link, field_row, found_row, row_of, field_rows, title_of, message_head, mail, frame_before, part_address, part_link, name_words, part_words, part_item, is_leaf, leaf_item, part_items, part_list, frame_after, line_end}
 use Rattle.webmail.specs.Mail.{chosen, plain_text, text_of_part, paragraph, unread_words, plain_part, unread_part, mail_of, mail_or_none}
 use Rattle.webmail.specs.ShowPage.{shown_of, page_of}
-use Rattle.html_tokens.specs.Tokenizer.{tokens_of_bytes, shown as shown_char}
+use Rattle.html_syntax.specs.Tokenizer.{tokens_of_bytes, replace_null}
 use Rattle.webmail.specs.Run.{page_bytes, is_own, IsSafe}
 
 -- ---- the frame
@@ -83,12 +83,12 @@ message_head_frame fields =
     is_frame-append (start_tag (codes "body") ∷ element (codes "h1") (title_of fields) ++ (line_end ∷ table ∷ field_rows fields)) (End (codes "table") ∷ line_end ∷ [])
     (is_frame-append (start_tag (codes "body") ∷ element (codes "h1") (title_of fields)) (line_end ∷ table ∷ field_rows fields) (heading_frame (title_of fields)) (rows_frame fields)) refl
 
-address_local : (rest : List ℕ) → is_local_address (map shown_char (chars (codes "/part/0/0/" ++ rest))) ≡ true
+address_local : (rest : List ℕ) → is_local_address (map replace_null (chars (codes "/part/0/0/" ++ rest))) ≡ true
 unfolding chars lib.Utf8.encode
-address_local rest = ap (λ (cs : List ℕ). is_local_address (map shown_char cs)) (chars-append (codes "/part/0/0/") rest (codes "/part/0/0/", (refl, refl)))
+address_local rest = ap (λ (cs : List ℕ). is_local_address (map replace_null cs)) (chars-append (codes "/part/0/0/") rest (codes "/part/0/0/", (refl, refl)))
 
-link_local : (section : List ℕ) → is_local_address (map shown_char (chars (part_address section))) ≡ true
-link_local section = ap (λ (bs : List ℕ). is_local_address (map shown_char (chars bs))) (append_assoc (codes "/part/0/0/") (spelling section) (codes "?f=")) ∙ address_local (spelling section ++ codes "?f=")
+link_local : (section : List ℕ) → is_local_address (map replace_null (chars (part_address section))) ≡ true
+link_local section = ap (λ (bs : List ℕ). is_local_address (map replace_null (chars bs))) (append_assoc (codes "/part/0/0/") (spelling section) (codes "?f=")) ∙ address_local (spelling section ++ codes "?f=")
 
 link_frame : (section : List ℕ) → is_frame (part_link section) ≡ true
 unfolding part_link is_frame_token opens_mail is_element message_elements frame_elements is_frame_attribute_name frame_attributes

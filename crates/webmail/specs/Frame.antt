@@ -1,8 +1,8 @@
 -- The frame around a shown message, as its tokens.
 use Rattle.std.specs.Prelude.{ℕ, Bool, not, ◌||◌, if◌then◌else◌, List, [], ◌∷◌, ◌++◌, codes, chars, decimal, length, Option, Some, None}
 use Rattle.std.specs.List.{flat_map}
-use Rattle.html_tokens.specs.Token.{Token}
-use Rattle.html_tokens.specs.Token.Token.{Start, End, Char, Doctype}
+use Rattle.html_syntax.specs.Token.{Token}
+use Rattle.html_syntax.specs.Token.Token.{Start, End, Char, Doctype}
 use Rattle.html_rules.specs.Tables.{Name}
 use Rattle.html_rules.specs.Tokens.{text_tokens, replace_nulls}
 use Rattle.page_writer.specs.Writer.{Page}

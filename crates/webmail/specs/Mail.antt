@@ -1,7 +1,7 @@
 -- What is shown of a message, and the tokens that show it.
 use Rattle.std.specs.Prelude.{ℕ, Bool, true, false, ◌||◌, List, [], ◌∷◌, ◌++◌, if◌then◌else◌, codes, bytes_eq, Option, Some, None, is_some, unwrap_or, option_and_then}
-use Rattle.html_tokens.specs.Token.{Token}
-use Rattle.html_tokens.specs.Token.Token.{End}
+use Rattle.html_syntax.specs.Token.{Token}
+use Rattle.html_syntax.specs.Token.Token.{End}
 use Rattle.html_rules.specs.Tokens.{start_tag}
 use Rattle.mail_values.specs.Section.{spelling}
 use Rattle.transfer_codings.specs.Codings.{decoded}

@@ -5,7 +5,7 @@ use Rattle.std.specs.Option.{option_map}
 use Rattle.std.specs.Io.KnownBytes.{Appends}
 use Rattle.mail_values.specs.Section.{IsSection, spelling}
 use Rattle.mail_io.specs.Stream.{ReadsWhole, WritesSome}
-use Rattle.html_tokens.specs.Tokenizer.{tokens_of_bytes, same}
+use Rattle.html_syntax.specs.Tokenizer.{tokens_of_bytes, same}
 use Rattle.page_writer.specs.Page.{spell}
 use Rattle.html_rules.specs.Nesting.{IsNested}
 use Rattle.html_rules.specs.Allowed.{IsAllowed, loads}

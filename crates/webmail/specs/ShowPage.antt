@@ -1,6 +1,6 @@
 -- The page of a message, as its tokens.
 use Rattle.std.specs.Prelude.{ℕ, List, ◌++◌, Option}
-use Rattle.html_tokens.specs.Token.{Token}
+use Rattle.html_syntax.specs.Token.{Token}
 use Rattle.header_words.specs.Fields.{header_of}
 use Rattle.mime_tree.specs.Opening.{tree_of}
 use Rattle.webmail.specs.Frame.{frame_before, frame_after}

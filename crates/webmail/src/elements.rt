@@ -1,6 +1,6 @@
 //! Elements of a page, each by one call.
 ghost use Rattle.std.specs.Prelude.{◌≡◌, [], ◌∷◌, chars, OnOk, false};
-ghost use Rattle.html_tokens.specs.Token.Token.{Start};
+ghost use Rattle.html_syntax.specs.Token.Token.{Start};
 ghost use Rattle.page_writer.specs.Page.{MayStart};
 ghost use Rattle.html_rules.specs.Tokens.{replace_nulls};
 ghost use Rattle.page_writer.specs.Writer.{with_token};
@@ -8,7 +8,7 @@ ghost use Rattle.html_rules.specs.Tokens.{start_tag};
 ghost use Rattle.html_rules.specs.Tables.{is_void};
 ghost use Rattle.webmail.specs.Frame.{with_tokens, element};
 
-use html_tokens::Attributes;
+use html_syntax::Attributes;
 use page_writer::{Memory, PageOut};
 use std::alloc::Global;
 

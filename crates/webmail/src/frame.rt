@@ -1,7 +1,7 @@
 //! The frame of a page: all that stands before and after a message.
 ghost use Rattle.std.specs.Prelude.{◌≡◌, ℕ, ◌<◌, ◌≤◌, List, [], ◌∷◌, ◌++◌, codes, chars, OnOk, false, IfOk, length, Some, IsTrue, string_bytes};
-ghost use Rattle.html_tokens.specs.Token.Token.{Start, End};
-ghost use Rattle.html_tokens.specs.Tokenizer.{tokens_of_bytes};
+ghost use Rattle.html_syntax.specs.Token.Token.{Start, End};
+ghost use Rattle.html_syntax.specs.Tokenizer.{tokens_of_bytes};
 ghost use Rattle.html_rules.specs.Nesting.{IsNested};
 ghost use Rattle.page_writer.specs.Page.{MayStart, takes_tags};
 ghost use Rattle.html_rules.specs.Tokens.{replace_nulls};

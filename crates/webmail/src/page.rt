@@ -1,6 +1,6 @@
 //! The page of a message.
 ghost use Rattle.std.specs.Prelude.{◌≡◌, IfOk, OnOk, Some};
-ghost use Rattle.html_tokens.specs.Tokenizer.{tokens_of_bytes};
+ghost use Rattle.html_syntax.specs.Tokenizer.{tokens_of_bytes};
 ghost use Rattle.html_rules.specs.Nesting.{IsNested};
 ghost use Rattle.mime_tree.specs.Opening.{tree_of};
 ghost use Rattle.webmail.specs.Mail.{chosen};

@@ -1,5 +1,5 @@
 use Rattle.std.proofs.Common.{is_ok, codes, sym, subst, ◌∷◌, []}
-use Rattle.html_tokens.specs.Token.Token.{Doctype}
+use Rattle.html_syntax.specs.Token.Token.{Doctype}
 use Rattle.page_writer.specs.Page.{MayAppend}
 use Rattle.page_writer.specs.Writer.{Page, names_of}
 use Rattle.page_writer.proofs.Held.{Leaves, leaves, on_ok, doctype_adds}

@@ -1,5 +1,5 @@
 use Rattle.std.proofs.Common.{◌≡◌, ◌∙◌, ◌-◌, ◌<◌, ℕ, List, ◌∷◌, true, length, get_or, Some, string_bytes, chars, encode_utf8_all, refl, sym, ap, subst, arith, vec_len}
-use Rattle.html_tokens.specs.Token.Token.{End}
+use Rattle.html_syntax.specs.Token.Token.{End}
 use Rattle.page_writer.specs.Page.{outer, spell_token}
 use Rattle.page_writer.specs.Writer.{Page, names_of, innermost}
 use Rattle.page_writer.proofs.Opening.{Moves, moves, may_end, popped, length-names_of}

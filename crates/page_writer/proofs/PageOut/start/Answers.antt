@@ -1,5 +1,5 @@
 use Rattle.std.proofs.Common.{is_ok, chars, sym, subst, encode_utf8_all, ◌∷◌}
-use Rattle.html_tokens.specs.Token.Token.{Start}
+use Rattle.html_syntax.specs.Token.Token.{Start}
 use Rattle.page_writer.specs.Page.{MayStart, spell_token}
 use Rattle.html_rules.specs.Tokens.{replace_nulls}
 use Rattle.page_writer.specs.Writer.{Page, names_of}
