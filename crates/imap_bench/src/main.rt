@@ -2,7 +2,7 @@
 #![tactic(auto)]
 
 ghost use Rattle.std.specs.Prelude.{IsSome};
-ghost use Rattle.imap_responses.specs.Response.{response_of};
+ghost use Rattle.imap_grammar.specs.Response.{response_of};
 
 use imap_responses::{ReadFault, Reader, Response};
 use itoa::Buffer;

@@ -7,7 +7,7 @@ use std::alloc::{AllocError as Memory, Global};
 use std::marker::Model;
 
 /// The UIDs from the first to the last, both among them.
-#[derive(Clone, Copy, Debug, PartialEq, Eq)]
+#[derive(Clone, Copy)]
 pub struct UidRange {
     pub first: u32,
     pub last: u32,

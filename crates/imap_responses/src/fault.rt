@@ -2,11 +2,11 @@
 ghost use Rattle.std.specs.Prelude.{◌≡◌};
 ghost use Rattle.imap_responses.specs.declared.fault.ReadFault.TheVariants.{Damaged, Memory};
 
-use imap_units::TooLong;
+use imap_framing::TooLong;
 use std::alloc::{AllocError, AllocFailed};
 
 /// Why a reader gave no response.
-#[derive(Clone, Copy, Debug, PartialEq, Eq)]
+#[derive(Clone, Copy, Debug, PartialEq)]
 pub enum ReadFault {
     /// The unit that begins there, counted from the dial's first byte, is no response, or a literal of it announces too many octets.
     Damaged { at: u64 },
