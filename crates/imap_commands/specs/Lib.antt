@@ -4,5 +4,5 @@ pub mod Commands
 pub mod Written
 pub mod UidSets
 pub mod Items
-pub mod Reading
+pub mod CommandGrammar
 pub mod ReadBack

@@ -8,7 +8,7 @@ mod uid_set;
 mod writing;
 
 pub use command::{Command, Known, Label};
-pub use laws::{commands_end_once, commands_read_back, pieces_are_filled};
+pub use laws::{commands_read_back, no_command_is_prefix, pieces_are_nonempty};
 pub use std::alloc::AllocError as Memory;
 pub use uid_set::{UidRange, UidSet};
 pub use writing::write;

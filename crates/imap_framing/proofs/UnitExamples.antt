@@ -1,7 +1,7 @@
 -- Where some bytes stand in their first unit, computed.
-use Rattle.std.proofs.Common.{◌≡◌, List, [], ◌∷◌, ◌++◌, codes, refl, true, false}
+use Rattle.std.proofs.Common.{◌≡◌, [], codes, refl, true, false}
 use Rattle.imap_framing.specs.Units.{step, frame_state_from, frame_state, IsUnit, HasTooLongLiteral}
-use Rattle.imap_framing.specs.Units.FrameState.{Line, Octets, Whole, TooLong, Past}
+use Rattle.imap_framing.specs.Units.FrameState.{Line, Octets, Past}
 
 -- a unit ends at its first CR LF
 continues : IsUnit (codes "+ go\r\n")

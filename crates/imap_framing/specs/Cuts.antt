@@ -1,34 +1,34 @@
--- A stream that is cut into units: what was given of it, and what comes next.
+-- A stream of bytes that is cut into units.
 use Rattle.std.specs.Prelude.{◌≡◌, ℕ, ◌+◌, Bool, true, false, List, [], ◌++◌, length, Result, Ok, Err}
 use Rattle.imap_framing.specs.declared.reader.TooLong.{TooLong}
 use Rattle.imap_framing.specs.Units.{IsUnit, IsIncomplete, HasTooLongLiteral}
 
 pub record Cut : Type 0 where
-  -- the unit that was given last, as long as it is held
+  -- the unit that was returned last, while it is held
   pub given : List ℕ
-  -- the bytes behind it
+  -- the bytes after it
   pub rest : List ℕ
-  -- where these begin, counted from the first byte that came
+  -- the offset of those bytes in the stream
   pub at : ℕ
 
 abbrev pub empty_cut : Cut
 empty_cut = record { given = []; rest = []; at = 0 }
 
--- more bytes came
+-- with more bytes at the end
 abbrev pub with_bytes : Cut → List ℕ → Cut
 with_bytes cut bytes = record { given = []; rest = cut.rest ++ bytes; at = cut.at }
 
--- the unit isn't held any more
+-- with no unit held
 abbrev pub without_given : Cut → Cut
 without_given cut = record { given = []; rest = cut.rest; at = cut.at }
 
--- a unit was given
+-- the next unit is given
 pub record GivesUnit (old new : Cut) : Type 0 where
   pub unit : IsUnit new.given
   pub whole : old.rest ≡ new.given ++ new.rest
   pub at : new.at ≡ old.at + length new.given
 
--- the unit that was given is the next again
+-- the unit that was given is again the next
 pub record GivesBack (old new : Cut) : Type 0 where
   pub none : new.given ≡ []
   pub whole : new.rest ≡ old.given ++ old.rest

@@ -1,4 +1,4 @@
--- What the fields of a reader of units hold.
+-- The fields of a reader of units.
 use Rattle.std.specs.Prelude.{ℕ, ◌+◌, ◌-◌, ◌^◌, ◌<◌, ◌≤◌, List, length, take, drop}
 use Rattle.imap_framing.specs.declared.scan.Phase.{Phase}
 use Rattle.imap_framing.specs.Scans.{PhaseIs}

@@ -1,6 +1,7 @@
--- What holds of all bytes.
+-- Laws of framing.
 use Rattle.std.specs.Prelude.{◌≡◌, ℕ, ◌+◌, ◌-◌, ◌*◌, ◌<◌, ◌⊎◌, false, true, List, [], ◌∷◌, ◌++◌, length}
 use Rattle.std.specs.List.{fold, list_all}
+use Rattle.imap_framing.specs.Bytes.{line_feed, carriage_return, digit_zero, left_brace, right_brace}
 use Rattle.imap_framing.specs.Lines.{is_digit, tail_of, has_literals}
 use Rattle.imap_framing.specs.Lines.Tail.{Size}
 use Rattle.imap_framing.specs.Units.{IsUnit, IsIncomplete, HasTooLongLiteral, frame_state, after_line}
@@ -12,36 +13,36 @@ use Rattle.imap_framing.specs.Streams.{SplitsStream}
 abbrev pub NoUnitIsPrefix : Type 0
 NoUnitIsPrefix = (a b x y : List ℕ) → IsUnit a → IsUnit b → a ++ x ≡ b ++ y → (a ≡ b) × (x ≡ y)
 
--- a rest at which no unit is given: it is no whole unit yet, or a literal is too long
+-- a rest from which no unit is read: an incomplete unit, or one with a literal that is too long
 abbrev pub IsEnd : List ℕ → Type 0
 IsEnd rest = IsIncomplete rest ⊎ HasTooLongLiteral rest
 
 abbrev pub EndsBeginWithNoUnit : Type 0
 EndsBeginWithNoUnit = (unit more : List ℕ) → IsUnit unit → IsEnd (unit ++ more) → ⊥
 
--- a stream is cut into units in one way
+-- a stream is cut into units in one way only
 abbrev pub SplitIsUnique : Type 0
 SplitIsUnique = (stream : List ℕ) (us vs : List (List ℕ)) (r q : List ℕ) → SplitsStream IsUnit stream us r → IsEnd r → SplitsStream IsUnit stream vs q → IsEnd q → (us ≡ vs) × (r ≡ q)
 
--- ---- lines, in plain words
+-- ---- lines
 
 abbrev pub line_end : List ℕ
-line_end = 13 ∷ 10 ∷ []
+line_end = carriage_return ∷ line_feed ∷ []
 
--- the text of a line: no CR LF stands in it
+-- the text of a line: it has no CR LF
 abbrev pub IsLine : List ℕ → Type 0
 IsLine line = (front back : List ℕ) → line ≡ front ++ (line_end ++ back) → ⊥
 
--- a first line is judged at its CR LF, whatever its bytes
+-- a first line ends at its first CR LF, whatever its bytes
 abbrev pub LinesEndAtFirstCrLf : Type 0
 LinesEndAtFirstCrLf = (line : List ℕ) → IsLine line → frame_state (line ++ line_end) ≡ after_line true line
 
--- so a unit that has no literals ends there
+-- so a unit without literals ends there
 abbrev pub PlainUnitsAreLines : Type 0
 PlainUnitsAreLines = (line : List ℕ) → IsLine line → has_literals line ≡ false → IsUnit (line ++ line_end)
 
 abbrev pub value : List ℕ → ℕ
-value digits = fold (λ n c. n * 10 + (c - 48)) 0 digits
+value digits = fold (λ n c. n * 10 + (c - digit_zero)) 0 digits
 
 -- a line that ends with `{`, digits and `}`
 pub record EndsWithSize (line : List ℕ) (n : ℕ) : Type 0 where
@@ -50,7 +51,7 @@ pub record EndsWithSize (line : List ℕ) (n : ℕ) : Type 0 where
   pub some : 0 < length digits
   pub all : list_all is_digit digits ≡ true
   pub value_is : value digits ≡ n
-  pub line_is : line ≡ front ++ (123 ∷ digits) ++ (125 ∷ [])
+  pub line_is : line ≡ front ++ (left_brace ∷ digits) ++ (right_brace ∷ [])
 
 -- these lines end with a size, and no others
 abbrev pub SizesAreRead : Type 0

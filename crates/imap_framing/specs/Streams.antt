@@ -10,12 +10,12 @@ use Rattle.imap_framing.specs.Cuts.{Cut}
 abbrev pub bytes_of_vecs : List (Vec ℕ) → List (List ℕ)
 bytes_of_vecs vs = map (λ v. v.items) vs
 
--- the stream is these parts and a rest
+-- a stream is some parts and a rest
 pub record SplitsStream (IsPart : List ℕ → Type 0) (stream : List ℕ) (parts : List (List ℕ)) (rest : List ℕ) : Type 0 where
   pub whole : stream ≡ concat parts ++ rest
   pub each : AllByRecursion IsPart parts
 
--- parts were taken out of a stream, one after another
+-- parts were taken from the front of a stream
 pub record TakesParts (IsPart : List ℕ → Type 0) (old : Cut) (before : List (List ℕ)) (new : Cut) (after : List (List ℕ)) : Type 0 where
   pub more : List (List ℕ)
   pub added : after ≡ before ++ more
@@ -27,7 +27,7 @@ TakesAllUnits old before (Ok u) new after = TakesParts IsUnit old before new aft
 TakesAllUnits old before (Err (TooLong at)) new after = TakesParts IsUnit old before new after × HasTooLongLiteral new.rest × (at ≡ new.at)
 TakesAllUnits old before (Err Memory) new after = Unit {0}
 
--- what a stream gives: all its units, or a fault at the place behind those before a literal that is too long
+-- the units of a stream, or the offset of the unit with a literal that is too long
 abbrev pub ReadsUnits : List ℕ → Result (Vec (Vec ℕ)) StreamFault → Type 0
 ReadsUnits stream (Ok units) = (rest : List ℕ) × SplitsStream IsUnit stream (bytes_of_vecs units.items) rest × IsIncomplete rest
 ReadsUnits stream (Err (TooLong at)) = (units : List (List ℕ)) × (rest : List ℕ) × SplitsStream IsUnit stream units rest × HasTooLongLiteral rest × (at ≡ length (concat units))

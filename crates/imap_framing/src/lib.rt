@@ -1,5 +1,5 @@
-//! Finds the units of a mail server's stream (RFC 9051 §2.2.2) in the pieces in which it comes: each is a line, with its literals and
-//! the lines behind them.
+//! Cuts the stream of an IMAP server into units (RFC 9051 §2.2.2). A unit is a line, together with its literals and the lines after them.
+//! The stream may arrive in any pieces.
 #![tactic(auto)]
 
 mod laws;

@@ -1,4 +1,4 @@
-//! How a line of a unit ends.
+//! The ends of the lines of a unit.
 ghost use Rattle.std.specs.Prelude.{◌≡◌, ◌+◌, ◌-◌, ◌*◌, ◌≤◌, ◌==◌, length};
 ghost use Rattle.std.specs.List.{position_or_len, prefix_len};
 ghost use Rattle.imap_framing.specs.Lines.{Tail, is_status, not_space, has_literals, tail_of, tail_with};
@@ -7,13 +7,13 @@ ghost use Rattle.imap_framing.specs.Scans.{capped, brace_of_tail, SizeOfTail, st
 
 use memchr::memchr;
 
-/// The most octets_left that a literal may have.
+/// The maximum number of octets in a literal.
 pub const LIMIT: usize = 33_554_432;
 
-/// What a line ends with so far. A number past the limit is brace_of_tail as the limit and one.
+/// What a line ends with so far. A number above the limit is kept as the limit and one.
 #[derive(Clone, Copy)]
 pub enum Brace {
-    /// Nothing of a literal's size.
+    /// No part of a literal's size.
     Out,
     /// `{`
     Open,
@@ -23,20 +23,20 @@ pub enum Brace {
     Size(usize),
 }
 
-/// What a line is, at the LF behind it.
+/// What an LF means for the line before it.
 #[derive(Clone, Copy)]
 pub enum Ending {
-    /// It isn't ended: no CR stands before the LF.
+    /// The line goes on: there is no CR before the LF.
     NotEnded,
-    /// The last of its unit.
+    /// The line is the last of its unit.
     Ends,
-    /// One that announces more octets_left than the limit.
+    /// The line ends with the size of a literal that is too long.
     TooLong,
-    /// One that goes on with a literal of so many octets_left.
+    /// The line ends with the size of a literal.
     Literal(usize),
 }
 
-/// Where a byte first stands, or the length.
+/// The offset of the first such byte, or the length.
 pub fn find_byte(byte: u8, text: &[u8]) -> usize
     ensures equals { result ≡ position_or_len (λ b. b == byte) text.now }
     ensures within { result ≤ length text.now }
@@ -79,11 +79,11 @@ fn brace_of(line: &[u8]) -> Brace
     brace
 }
 
-/// The size of a literal with which a line ends.
+/// The size of a literal at the end of a line.
 fn size_at_end(line: &[u8]) -> Option<usize>
     ensures { SizeOfTail result (tail_of line.now) }
 {
-    // Most lines end with no size, and need not be read for one.
+    // Most lines end with no size, and are not read for one.
     if !line.ends_with(b"}") {
         return None;
     }
@@ -103,7 +103,7 @@ fn is_status(word: &[u8]) -> bool
         || word.eq_ignore_ascii_case(b"preauth")
 }
 
-/// Whether a unit that begins with this line has literals.
+/// Whether a unit with this first line has literals.
 fn has_literals(line: &[u8]) -> bool
     ensures { result ≡ has_literals line.now }
 {
@@ -113,7 +113,7 @@ fn has_literals(line: &[u8]) -> bool
     }
 }
 
-/// What comes behind the CR LF of a line.
+/// What a CR LF means for the line before it.
 fn line_ending(first: bool, line: &[u8]) -> Ending
     ensures { state_after_line_feed result first line.now ≡ after_line first line.now }
 {
@@ -127,7 +127,7 @@ fn line_ending(first: bool, line: &[u8]) -> Ending
     }
 }
 
-/// What comes behind the LF of a line.
+/// What an LF means for the bytes of the line before it.
 pub fn ending_at_line_feed(first: bool, line: &[u8]) -> Ending
     ensures { state_after_line_feed result first line.now ≡ after_line_feed first line.now }
 {

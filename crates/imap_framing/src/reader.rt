@@ -1,4 +1,4 @@
-//! The units of a stream that comes in pieces, one after another.
+//! Reads the units of a stream that arrives in pieces.
 ghost use Rattle.std.specs.Prelude.{◌≡◌, ◌≤◌, [], ◌++◌, drop, length, vec_len, OnOk, OnErr};
 ghost use Rattle.imap_framing.specs.Cuts.{empty_cut, with_bytes, AdvancesCut, GivesBack};
 
@@ -6,23 +6,23 @@ use crate::scan::{Found, Phase, START, scan};
 use std::alloc::{AllocError, Global};
 use std::marker::Model;
 
-/// A literal of a unit announces more than [`crate::LIMIT`] octets_left.
+/// A literal of a unit has more than [`crate::LIMIT`] octets.
 #[derive(Clone, Copy, Debug)]
 pub struct TooLong {
-    /// Where that unit begins, counted from the first byte that was fed.
+    /// The offset of the unit in the stream.
     pub at: u64,
 }
 
-/// The bytes of one stream, and the units that they hold.
+/// A buffer for the bytes of one stream, from which units are read.
 #[derive(Drop)]
 pub struct UnitReader {
     buffer: Vec<u8>,
-    // Where the buffer begins, counted from the first byte that was fed.
+    // The offset of the buffer in the stream.
     base: usize,
-    // Where the unit that was given last begins in the buffer, and where it ends and the rest begins.
+    // The start and end of the unit that was given last, as offsets in the buffer. The rest begins at its end.
     given: usize,
     start: usize,
-    // How much of the rest was scanned, and what that comes to.
+    // The number of scanned bytes of the rest, and the phase after them.
     scanned: usize,
     phase: Phase,
 }
@@ -54,7 +54,7 @@ fn drop_front(buffer: &mut Vec<u8>, start: usize)
 }
 
 impl UnitReader {
-    /// A reader to which nothing was fed.
+    /// Creates a reader of an empty stream.
     pub fn new(alloc: Global) -> UnitReader
         ensures { result ≡ empty_cut }
     {
@@ -68,7 +68,7 @@ impl UnitReader {
         }
     }
 
-    /// Appends bytes. A stream has fewer than 2 ^ 64; out of memory answers those that would be more.
+    /// Appends bytes. A stream has fewer than 2^64 bytes; more are refused as out of memory.
     pub fn feed(&mut self, bytes: &[u8]) -> Result<(), AllocError>
         ensures appends { OnOk result (self.new ≡ with_bytes self.old bytes.now) }
         ensures unchanged_on_err { OnErr result (self.new ≡ self.old) }
@@ -76,7 +76,7 @@ impl UnitReader {
         if bytes.len() > usize::MAX - self.base - self.buffer.len() {
             return Err(AllocError);
         }
-        // What is taken away was longer than what is moved, so all moves together take no longer than the stream.
+        // More bytes are dropped than are moved, so all moves together are linear in the stream.
         if self.given > self.buffer.len() - self.given {
             self.drop_given_units();
         }
@@ -94,6 +94,7 @@ impl UnitReader {
         }
     }
 
+    /// Drops the bytes before the unit that was given last.
     fn drop_given_units(&mut self)
         ensures { self.new ≡ self.old }
     {
@@ -103,7 +104,7 @@ impl UnitReader {
         self.given = 0;
     }
 
-    /// Goes to the next unit. `false` says that the rest begins with no whole one.
+    /// Advances to the next unit. Returns `false` if the rest does not begin with a whole unit.
     pub fn advance(&mut self) -> Result<bool, TooLong>
         ensures { AdvancesCut self.old result self.new }
     {
@@ -126,7 +127,7 @@ impl UnitReader {
         }
     }
 
-    /// Makes the unit that was given last the next again.
+    /// Makes the unit that was given last the next one again.
     pub fn give_back(&mut self)
         ensures { GivesBack self.old self.new }
     {
@@ -135,14 +136,14 @@ impl UnitReader {
         self.phase = START;
     }
 
-    /// The unit that the reader went to last; empty where it hasn't, or where bytes were with_bytes since.
+    /// The unit that the reader advanced to last; empty if it has not advanced, or if bytes were fed since.
     pub fn unit(&self) -> &[u8]
         ensures { result.now ≡ self.now.given }
     {
         &self.buffer[self.given..self.start]
     }
 
-    /// Where the next unit begins, counted from the first byte that was fed.
+    /// The offset of the next unit in the stream.
     pub fn at(&self) -> u64
         ensures { result ≡ self.now.at }
     {

@@ -1,37 +1,37 @@
-//! Where the first unit of some bytes ends.
+//! Scans for the end of the first unit of some bytes.
 ghost use Rattle.std.specs.Prelude.{◌≡◌, ◌≤◌, ◌<◌, ◌+◌, length, take, slice_index};
 ghost use Rattle.imap_framing.specs.Scans.{PhaseIs, FoundIs, AwaitsAtEnd};
 ghost use Rattle.imap_framing.specs.declared.scan.Phase.TheVariants as phases;
 
 use crate::line::{Ending, ending_at_line_feed, find_byte};
 
-/// Where the scan stands in a unit. Places are counted from the unit's first byte.
+/// The phase of a scan. Offsets are counted from the first byte of the unit.
 #[derive(Clone, Copy)]
 pub enum Phase {
-    /// In the line that begins there.
+    /// In the line that begins at `from`.
     Line { from: usize, first: bool },
-    /// In a literal, with so many octets_left to come.
+    /// In a literal with `left` octets to come.
     Octets { left: usize },
 }
 
-/// What the bytes up to a place are.
+/// What the scanned bytes are.
 #[derive(Clone, Copy)]
 pub enum Found {
     /// One whole unit.
     Whole,
-    /// They end with the size of a literal that is too long.
+    /// Bytes that end with the size of a literal that is too long.
     TooLong,
-    /// More bytes are needed.
+    /// An incomplete unit.
     Awaits(Phase),
 }
 
-/// Where each unit begins.
+/// The phase at the start of a unit.
 pub const START: Phase = Phase::Line {
     from: 0,
     first: true,
 };
 
-/// Goes on in a literal: to its end, or to the end of the bytes.
+/// Scans a literal to its end, or to the end of the bytes.
 fn scan_octets(unit: &[u8], at: usize, left: usize) -> (Found, usize)
     requires in_bounds { at < length unit.now }
     requires phase { PhaseIs (take at unit.now) (phases.Octets left) }
@@ -48,7 +48,7 @@ fn scan_octets(unit: &[u8], at: usize, left: usize) -> (Found, usize)
     }
 }
 
-/// What comes behind the LF at a place.
+/// Scans the LF at an offset.
 fn scan_line_feed(unit: &[u8], line_feed: usize, from: usize, first: bool) -> Found
     requires in_bounds { line_feed < length unit.now }
     requires line_feed { slice_index unit.now line_feed ≡ 10 }
@@ -67,7 +67,7 @@ fn scan_line_feed(unit: &[u8], line_feed: usize, from: usize, first: bool) -> Fo
     }
 }
 
-/// Goes on in a line: behind its next LF, or to the end of the bytes.
+/// Scans a line past its next LF, or to the end of the bytes.
 fn scan_line(unit: &[u8], at: usize, from: usize, first: bool) -> (Found, usize)
     requires in_bounds { at < length unit.now }
     requires phase { PhaseIs (take at unit.now) (phases.Line from first) }
@@ -82,6 +82,7 @@ fn scan_line(unit: &[u8], at: usize, from: usize, first: bool) -> (Found, usize)
     }
 }
 
+/// Scans a literal, or a part of a line.
 fn scan_step(unit: &[u8], at: usize, phase: Phase) -> (Found, usize)
     requires in_bounds { at < length unit.now }
     requires phase { PhaseIs (take at unit.now) phase }
@@ -94,7 +95,7 @@ fn scan_step(unit: &[u8], at: usize, phase: Phase) -> (Found, usize)
     }
 }
 
-/// Scans on, to the end of the first unit or of the bytes, and says where it stopped.
+/// Scans from `at` to the end of the first unit or of the bytes, and returns the offset where it stopped.
 pub fn scan(unit: &[u8], at: usize, phase: Phase) -> (Found, usize)
     requires within { at ≤ length unit.now }
     requires phase { PhaseIs (take at unit.now) phase }

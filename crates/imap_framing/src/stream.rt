@@ -1,4 +1,4 @@
-//! The units of a whole stream.
+//! Reads the units of a whole stream.
 ghost use Rattle.std.specs.Prelude.{◌≡◌};
 ghost use Rattle.std.specs.List.{concat};
 ghost use Rattle.imap_framing.specs.declared.stream.StreamFault.TheVariants as faults;
@@ -7,10 +7,10 @@ ghost use Rattle.imap_framing.specs.Streams.{bytes_of_vecs, TakesAllUnits, Reads
 use crate::reader::{TooLong, UnitReader};
 use std::alloc::{AllocError, AllocFailed, Global};
 
-/// Why not all units of a stream were found.
+/// Why the units of a stream were not read.
 #[derive(Clone, Copy, Debug)]
 pub enum StreamFault {
-    /// A literal of the unit that begins there announces too many octets_left.
+    /// A literal of the unit at that offset is too long.
     TooLong { at: u64 },
     Memory,
 }
@@ -39,7 +39,7 @@ impl<T: Drop> From<AllocFailed<T>> for StreamFault {
     }
 }
 
-/// Adds copies of all units that a reader has.
+/// Appends a copy of each unit of a reader.
 fn take_all(
     alloc: Global,
     reader: &mut UnitReader,
@@ -53,7 +53,7 @@ fn take_all(
     Ok(())
 }
 
-/// The units of the stream that comes in these pieces: those of the joined bytes, wherever these are cut.
+/// Returns the units of a stream that arrives in these pieces. They depend on the joined bytes alone, not on where these are cut.
 pub fn units_of(alloc: Global, pieces: &[Vec<u8>]) -> Result<Vec<Vec<u8>>, StreamFault>
     ensures { ReadsUnits (concat (bytes_of_vecs pieces.now)) result }
 {

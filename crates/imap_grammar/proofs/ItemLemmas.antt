@@ -7,7 +7,7 @@ use Rattle.imap_values.specs.Words.{FailsAs}
 use Rattle.imap_grammar.specs.ItemData.{ItemData, item_data_of, items_data_of}
 use Rattle.imap_grammar.specs.Items.{item_at, items_at, item_end_at, continue_items, prepend_item}
 
--- items in front of those that are read prepend them
+-- items in front of those that are read after them
 abbrev pub prepend_items : List ItemData → Option (List ItemData × List ℕ) → Option (List ItemData × List ℕ)
 prepend_items front None = None
 prepend_items front (Some x) = Some (front ++ x.0, x.1)

@@ -1,4 +1,4 @@
--- Worked examples of units and what they say.
+-- Worked examples of units and their responses.
 use Rattle.std.proofs.Common.{◌≡◌, ℕ, List, [], ◌∷◌, ◌++◌, true, Some, None, refl, codes}
 use Rattle.imap_grammar.specs.declared.response.Word.TheVariants as words
 use Rattle.imap_grammar.specs.declared.response.Code.TheVariants as coding
@@ -24,7 +24,7 @@ appended : response_of (codes "a1 ok [APPENDUID 38505 3955] done" ++ end_of_line
 unfolding response_of line_of tagged_response_of state_word_of code_at code_name_of
 appended = refl
 
--- a code that doesn't read is text
+-- a code that does not read is text
 open_code : response_of (codes "A1 OK [APPENDUID x" ++ end_of_line) ≡ Some (Tagged (codes "A1") words.Ok None (codes "[APPENDUID x"))
 unfolding response_of line_of tagged_response_of state_word_of code_at
 open_code = refl
@@ -45,6 +45,38 @@ capability = refl
 sent : response_of (codes "* LIST (\\Sent) \"/\" {4}" ++ end_of_line ++ codes "Sent" ++ end_of_line) ≡ Some (Mailbox (codes "\\Sent" ∷ []) (codes "Sent"))
 unfolding response_of line_of untagged_response_of state_word_of untagged_kind_of list_of attributes_at word_list_at separator_at mailbox_at quoted_raw_at string_at literal_at number_at
 sent = refl
+
+-- a name without quotes ends at a space or at the end; with an LF after it there is no response
+extended : response_of (codes "* LIST () \"/\" Sent (\"CHILDINFO\" (\"SUBSCRIBED\"))" ++ end_of_line) ≡ Some (Mailbox [] (codes "Sent"))
+unfolding response_of line_of untagged_response_of state_word_of untagged_kind_of list_of attributes_at word_list_at separator_at mailbox_at quoted_raw_at
+extended = refl
+
+torn_name : response_of (codes "* LIST () \"/\" a\nb" ++ end_of_line) ≡ None
+unfolding response_of line_of untagged_response_of state_word_of untagged_kind_of list_of attributes_at word_list_at separator_at mailbox_at quoted_raw_at
+torn_name = refl
+
+-- a literal8 is read as a string
+body_with_null : response_of (codes "* 1 FETCH (BODY[] ~{3}" ++ end_of_line ++ 97 ∷ 0 ∷ 41 ∷ 41 ∷ end_of_line) ≡ Some (Fetch 1 (Body (Some (97 ∷ 0 ∷ 41 ∷ [])) ∷ []))
+unfolding response_of line_of untagged_response_of number_response_of count_kind_of item_list_at items_at item_at item_name_of nstring_at string_at literal_at number_at
+body_with_null = refl
+
+literal8_name : response_of (codes "* LIST () NIL ~{4}" ++ end_of_line ++ codes "Sent" ++ end_of_line) ≡ Some (Mailbox [] (codes "Sent"))
+unfolding response_of line_of untagged_response_of state_word_of untagged_kind_of list_of attributes_at word_list_at separator_at mailbox_at string_at literal_at number_at
+literal8_name = refl
+
+-- a tilde alone begins a name without quotes
+home : response_of (codes "* LIST () NIL ~a" ++ end_of_line) ≡ Some (Mailbox [] (codes "~a"))
+unfolding response_of line_of untagged_response_of state_word_of untagged_kind_of list_of attributes_at word_list_at separator_at mailbox_at
+home = refl
+
+-- the name of an item has at least one byte
+no_name : response_of (codes "* 1 FETCH ( 1)" ++ end_of_line) ≡ None
+unfolding response_of line_of untagged_response_of number_response_of count_kind_of item_list_at items_at item_at number_at
+no_name = refl
+
+no_second_name : response_of (codes "* 1 FETCH (UID 7  1)" ++ end_of_line) ≡ None
+unfolding response_of line_of untagged_response_of number_response_of count_kind_of item_list_at items_at item_at item_name_of number_at positive_at
+no_second_name = refl
 
 -- a message that is a literal holds what would end the list
 fetched : response_of (codes "* 1 FETCH (UID 7 BODY[] {5}" ++ end_of_line ++ 97 ∷ 13 ∷ 10 ∷ 41 ∷ 98 ∷ 41 ∷ end_of_line) ≡ Some (Fetch 1 (Uid 7 ∷ Body (Some (97 ∷ 13 ∷ 10 ∷ 41 ∷ 98 ∷ [])) ∷ []))

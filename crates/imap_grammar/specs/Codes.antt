@@ -1,5 +1,6 @@
--- The code in the brackets of a state (RFC 9051 §7.1, RFC 7162 §3.1.2).
+-- The code in the brackets of a status response (RFC 9051 §7.1, RFC 7162 §3.1.2).
 use Rattle.std.specs.Prelude.{ℕ, ◌==◌, if◌then◌else◌, List, [], ◌∷◌, codes, Option, Some, None}
+use Rattle.imap_commands.specs.Bytes.{space, left_bracket, right_bracket}
 use Rattle.imap_grammar.specs.declared.response.Code.{Code}
 use Rattle.imap_grammar.specs.declared.response.Code.TheVariants as coding
 use Rattle.imap_grammar.specs.declared.codes.CodeName.{CodeName}
@@ -34,18 +35,18 @@ code_value_of names.Nomodseq argument = Some coding.Nomodseq
 code_value_of names.Closed argument = Some coding.Closed
 code_value_of names.Other argument = Some coding.Unread
 
--- prepend the word: the ], or a space, an argument and the ]
+-- the argument of a code after its word: none before the ], or the bytes between a space and the ]
 abbrev pub argument_at : List ℕ → Option (List ℕ × List ℕ)
 argument_at [] = None
-argument_at (c ∷ rest) = if c == 93 then Some ([], rest) else (let a = take_while_at classes.CodeText rest in byte_at 93 a.1 >>= (λ after. Some (a.0, after)))
+argument_at (c ∷ rest) = if c == right_bracket then Some ([], rest) else (let a = take_while_at classes.CodeText rest in byte_at right_bracket a.1 >>= (λ after. Some (a.0, after)))
 
 abbrev pub skip_space : List ℕ → List ℕ
 skip_space [] = []
-skip_space (c ∷ text) = if c == 32 then text else c ∷ text
+skip_space (c ∷ text) = if c == space then text else c ∷ text
 
 unfoldable pub code_at : List ℕ → Option (Code × List ℕ)
 code_at text = do
-  inner ← byte_at 91 text
+  inner ← byte_at left_bracket text
   word ← take_while1_at classes.CodeWord inner
   a ← argument_at word.1
   code ← code_value_of (code_name_of word.0) a.0
@@ -55,6 +56,6 @@ abbrev pub code_or_text : Option (Code × List ℕ) → List ℕ → Option Code
 code_or_text None text = (None, text)
 code_or_text (Some c) text = (Some c.0, c.1)
 
--- a code, and the text prepend it; one that doesn't read is text
+-- the code of a status response and the text after it; a code that does not read is part of the text
 abbrev pub code_and_text : List ℕ → Option Code × List ℕ
 code_and_text text = code_or_text (code_at text) text

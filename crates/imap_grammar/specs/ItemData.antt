@@ -1,10 +1,10 @@
--- What an item of a FETCH tells, without where its bytes lie in memory.
-use Rattle.std.specs.Prelude.{ℕ, ℤ, List, map, Option, Some, None}
+-- The data of a FETCH item, wherever its bytes are in memory.
+use Rattle.std.specs.Prelude.{ℕ, ℤ, List, map, Option}
 use Rattle.imap_values.specs.Lents.{bytes_or_nil}
 use Rattle.imap_grammar.specs.declared.response.Item.{Item}
 use Rattle.imap_grammar.specs.declared.response.Item.TheVariants as items
 
--- an item; a header or a body is none where it is NIL
+-- a header or body is None if it is NIL
 pub data ItemData : Type 0 where
   Uid : ℕ → ItemData
   Flags : List (List ℕ) → ItemData

@@ -1,5 +1,6 @@
--- One whole unit of a server's stream as a response (RFC 9051 §7, RFC 7162, RFC 4731).
+-- The response in one whole unit of a server's stream (RFC 9051 §7, RFC 7162, RFC 4731).
 use Rattle.std.specs.Prelude.{◌≡◌, ℕ, ◌-◌, Bool, true, false, ◌&&◌, ◌==◌, if◌then◌else◌, List, [], ◌∷◌, length, take, drop, codes, Option, Some, None, Result, Ok, Err}
+use Rattle.imap_commands.specs.Bytes.{space, quotation_mark, left_parenthesis, asterisk, plus_sign}
 use Rattle.imap_grammar.specs.declared.response.Word.{Word}
 use Rattle.imap_grammar.specs.declared.response.Word.TheVariants as words
 use Rattle.imap_grammar.specs.declared.response.Code.{Code}
@@ -19,7 +20,7 @@ use Rattle.imap_grammar.specs.Items.{item_list_at}
 use Rattle.imap_values.specs.Sets.{membership, membership_or_none, uid_set_at}
 use Rattle.imap_grammar.specs.Searches.{search_of}
 
--- a response, without where its bytes lie in memory
+-- the data of a response, wherever its bytes are in memory
 pub data ResponseData : Type 0 where
   Continue : List ℕ → ResponseData
   Tagged : List ℕ → Word → Option Code → List ℕ → ResponseData
@@ -30,7 +31,7 @@ pub data ResponseData : Type 0 where
   Exists : ℕ → ResponseData
   Expunge : ℕ → ResponseData
   Fetch : ℕ → List ItemData → ResponseData
-  -- a set is the test of what is in it
+  -- a set is its membership test
   Vanished : Bool → (ℕ → Bool) → ResponseData
   Esearch : List ℕ → Option (ℕ → Bool) → ResponseData
   Other : ResponseData
@@ -49,13 +50,13 @@ data_of (responses.Vanished earlier set) = Vanished earlier (membership set)
 data_of (responses.Esearch tag set) = Esearch (bytes_of tag) (membership_or_none set)
 data_of responses.Other = Other
 
--- what read_response gave is what the definition reads
+-- the result of `read_response` is what the definition reads
 abbrev pub ReadsResponse : {E : Type 0} → Result (Option Response) E → Option ResponseData → Type 0
 ReadsResponse (Ok (Some response)) read = read ≡ Some (data_of response)
 ReadsResponse (Ok None) read = read ≡ None
 ReadsResponse (Err e) read = Unit {0}
 
--- ---- states, tagged or not
+-- ---- status responses, tagged or not
 
 unfoldable pub state_word_of : List ℕ → Option Word
 state_word_of word =
@@ -75,7 +76,7 @@ ends_command word = false
 unfoldable pub tagged_response_of : List ℕ → Option ResponseData
 tagged_response_of bytes = do
   tag ← take_while1_at classes.Tag bytes
-  rest ← byte_at 32 tag.1
+  rest ← byte_at space tag.1
   let word = take_while_at classes.Word rest
   state ← state_word_of word.0
   text ← text_after_word_at word.1
@@ -95,8 +96,8 @@ count_kind_of word =
 
 abbrev pub fetch_of : ℕ → List ℕ → Option ResponseData
 fetch_of n rest = do
-  list ← byte_at 32 rest
-  inner ← byte_at 40 list
+  list ← byte_at space rest
+  inner ← byte_at left_parenthesis list
   items ← item_list_at inner
   u ← end_at items.1
   Some (Fetch n items.0)
@@ -107,11 +108,11 @@ count_response_of counts.Expunge n rest = end_at rest >>= λ u. Some (Expunge n)
 count_response_of counts.Fetch n rest = fetch_of n rest
 count_response_of counts.Other n rest = Some Other
 
--- a number and a word
+-- a number, a space and a word
 unfoldable pub number_response_of : List ℕ → List ℕ → Option ResponseData
 number_response_of digits bytes = do
   n ← number_at 4294967295 digits
-  rest ← byte_at 32 bytes
+  rest ← byte_at space bytes
   word ← take_while1_at classes.Word rest
   count_response_of (count_kind_of word.0) n.0 word.1
 
@@ -127,40 +128,40 @@ untagged_kind_of word =
 unfoldable pub line_words_of : List ℕ → Option (List (List ℕ))
 line_words_of rest = text_after_word_at rest >>= λ text. if all_in_class classes.Line text then Some (words_of text) else None
 
--- NIL or a quoted string, of which nothing is told
+-- the hierarchy separator, NIL or a quoted string: the rest after it
 unfoldable pub separator_at : List ℕ → Option (List ℕ)
-separator_at bytes = if is_nil bytes then Some (drop 3 bytes) else (byte_at 34 bytes >>= λ text. quoted_raw_at text >>= λ x. Some x.1)
+separator_at bytes = if is_nil bytes then Some (drop 3 bytes) else (byte_at quotation_mark bytes >>= λ text. quoted_raw_at text >>= λ x. Some x.1)
 
--- a string, or all bytes up to a space
+-- the name of a mailbox: a string, or the bytes up to a space
 unfoldable pub mailbox_at : List ℕ → Option (List ℕ × List ℕ)
 mailbox_at bytes = if begins_string bytes then string_at bytes else take_while1_at classes.Word bytes
 
--- attributes in parentheses
+-- the attributes of a mailbox, in parentheses
 unfoldable pub attributes_at : List ℕ → Option (List (List ℕ) × List ℕ)
 attributes_at rest = do
-  list ← byte_at 32 rest
-  inner ← byte_at 40 list
+  list ← byte_at space rest
+  inner ← byte_at left_parenthesis list
   word_list_at inner
 
 -- a mailbox; extended data may follow it after a space (RFC 9051 §7.3.1)
 unfoldable pub list_of : List ℕ → Option ResponseData
 list_of rest = do
   attributes ← attributes_at rest
-  separator ← byte_at 32 attributes.1
-  prepend ← separator_at separator
-  text ← byte_at 32 prepend
+  separator ← byte_at space attributes.1
+  after ← separator_at separator
+  text ← byte_at space after
   name ← mailbox_at text
   more ← text_after_word_at name.1
   Some (Mailbox attributes.0 name.0)
 
--- (EARLIER) may stand in front
+-- whether VANISHED has (EARLIER), and the rest
 unfoldable pub earlier_at : List ℕ → Bool × List ℕ
 earlier_at bytes = if starts_with_ignore_case (codes "(earlier) ") bytes then (true, drop 10 bytes) else (false, bytes)
 
--- UIDs that are gone (RFC 7162 §3.2.10)
+-- expunged UIDs (RFC 7162 §3.2.10)
 unfoldable pub vanished_of : List ℕ → Option ResponseData
 vanished_of rest = do
-  uids ← byte_at 32 rest
+  uids ← byte_at space rest
   let e = earlier_at uids
   set ← uid_set_at e.1
   u ← end_at set.1
@@ -188,9 +189,9 @@ untagged_response_of bytes = take_while1_at classes.Word bytes >>= λ w. if all_
 
 unfoldable pub line_of : List ℕ → Option ResponseData
 line_of [] = None
-line_of (c ∷ []) = if c == 43 then Some (Continue []) else tagged_response_of (c ∷ [])
-line_of (c ∷ d ∷ rest) = if c == 43 then Some (Continue (skip_space (d ∷ rest))) else (if c == 42 && d == 32 then untagged_response_of rest else tagged_response_of (c ∷ d ∷ rest))
+line_of (c ∷ []) = if c == plus_sign then Some (Continue []) else tagged_response_of (c ∷ [])
+line_of (c ∷ d ∷ rest) = if c == plus_sign then Some (Continue (skip_space (d ∷ rest))) else (if c == asterisk && d == space then untagged_response_of rest else tagged_response_of (c ∷ d ∷ rest))
 
--- the unit without its last CR LF
+-- a unit is read without its last CR LF
 unfoldable pub response_of : List ℕ → Option ResponseData
 response_of unit = line_of (take (length unit - 2) unit)

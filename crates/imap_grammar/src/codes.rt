@@ -1,13 +1,16 @@
-//! The code in the brackets of a state (RFC 9051 §7.1).
+//! The code in the brackets of a status response (RFC 9051 §7.1).
 
 ghost use Rattle.std.specs.Prelude.{◌≡◌, Some};
 ghost use Rattle.imap_values.specs.Words.{ParsesAs};
 ghost use Rattle.imap_grammar.specs.Codes.{code_name_of, validity_of, modseq_of, code_value_of, argument_at, skip_space, code_at, code_and_text};
 
 use crate::response::Code;
-use imap_values::{Class, ParseError, eq_ignore_case, expect_byte, expect_end, number, positive, take_while, take_while1};
+use imap_values::{
+    Class, ParseError, eq_ignore_case, expect_byte, expect_end, number, positive, take_while,
+    take_while1,
+};
 
-/// The words of codes that are read.
+/// The codes that are read.
 #[derive(Clone, Copy)]
 pub enum CodeName {
     Uidvalidity,
@@ -62,7 +65,7 @@ fn code_value(name: CodeName, argument: &[u8]) -> Result<Code, ParseError>
     }
 }
 
-/// What stands between a code's word and its `]`, and what follows.
+/// Reads the argument of a code after its word, and returns it with the bytes after the `]`.
 fn argument(bytes: &[u8]) -> Result<(&[u8], &[u8]), ParseError>
     ensures { ParsesAs (λ x. (x.0.now, x.1.now)) result (argument_at bytes.now) }
 {
@@ -76,7 +79,7 @@ fn argument(bytes: &[u8]) -> Result<(&[u8], &[u8]), ParseError>
     }
 }
 
-/// Without a space in front.
+/// The text after a space, if it begins with one.
 pub fn skip_space(text: &[u8]) -> &[u8]
     ensures { result.now ≡ skip_space text.now }
 {
@@ -86,7 +89,7 @@ pub fn skip_space(text: &[u8]) -> &[u8]
     }
 }
 
-/// The code in front, and the text behind it.
+/// Reads a code, and returns it with the text after it.
 #[tactic(auto, unfolding(crate::specs::Codes::code_at))]
 fn code(text: &[u8]) -> Result<(Code, &[u8]), ParseError>
     ensures { ParsesAs (λ x. (x.0, x.1.now)) result (code_at text.now) }
@@ -98,7 +101,7 @@ fn code(text: &[u8]) -> Result<(Code, &[u8]), ParseError>
     Ok((code, skip_space(rest)))
 }
 
-/// The code of a state and the text behind it; one that doesn't read is text.
+/// Returns the code of a status response and the text after it. A code that does not read is part of the text.
 pub fn code_and_text(text: &[u8]) -> Result<(Option<Code>, &[u8]), ParseError>
     ensures { ParsesAs (λ x. (x.0, x.1.now)) result (Some (code_and_text text.now)) }
 {

@@ -1,4 +1,4 @@
-//! The items of a FETCH in a unit (RFC 9051 §7.5.2).
+//! The items of a FETCH (RFC 9051 §7.5.2).
 
 ghost use Rattle.std.specs.Prelude.{◌≡◌, ◌≤◌, false, length};
 ghost use Rattle.imap_grammar.specs.ItemData.{item_data_of, items_data_of};
@@ -7,10 +7,13 @@ ghost use Rattle.imap_grammar.specs.Items.{name_len, name_at, item_name_of, uid_
 
 use crate::items::Items;
 use crate::response::Item;
-use imap_values::{ParseError, eq_ignore_case, expect_byte, moment, nstring, number, positive, skip_value, starts_with_ignore_case, string, word_list};
+use imap_values::{
+    ParseError, eq_ignore_case, expect_byte, moment, nstring, number, positive, skip_value,
+    starts_with_ignore_case, string, word_list,
+};
 use std::alloc::Global;
 
-/// The names of items that are read.
+/// The items that are read.
 #[derive(Clone, Copy)]
 pub enum ItemName {
     Uid,
@@ -65,7 +68,7 @@ fn name_len(bytes: &[u8]) -> usize
     bytes.len()
 }
 
-/// The name in front: up to a space that is not in brackets.
+/// Splits after the name of an item, at a space that is not in brackets. A name has at least one byte.
 fn split_name(bytes: &[u8]) -> Result<(&[u8], &[u8]), ParseError>
     ensures { ParsesAs (λ x. (x.0.now, x.1.now)) result (name_at bytes.now) }
 {
@@ -159,7 +162,7 @@ fn item(alloc: Global, bytes: &[u8]) -> Result<(Item<'_>, &[u8]), ParseError>
     item_value(alloc, item_name(name), value)
 }
 
-/// Behind an item: whether a `)` ends the items, or a space stands before the next.
+/// Reads what follows an item: `true` for the `)` that ends the list, `false` for the space before the next item.
 fn item_end(bytes: &[u8]) -> Result<(bool, &[u8]), ParseError>
     ensures { ParsesAs (λ x. (x.0, x.1.now)) result (item_end_at bytes.now) }
 {
@@ -170,10 +173,10 @@ fn item_end(bytes: &[u8]) -> Result<(bool, &[u8]), ParseError>
     }
 }
 
-/// Room for so many items is made at first: servers seldom tell more of a message.
+/// The initial capacity of a list of items: servers seldom send more for a message.
 const USUAL: usize = 8;
 
-/// One item or more, and the `)` behind them.
+/// Reads one or more items and the `)` after them.
 fn items(alloc: Global, bytes: &[u8]) -> Result<(Vec<Item<'_>>, &[u8]), ParseError>
     ensures { ParsesAs (λ x. (items_data_of x.0.items, x.1.now)) result (items_at (length bytes.now) bytes.now) }
 {
@@ -191,7 +194,7 @@ fn items(alloc: Global, bytes: &[u8]) -> Result<(Vec<Item<'_>>, &[u8]), ParseErr
     Err(ParseError::NotInGrammar)
 }
 
-/// The items in parentheses, behind the `(`.
+/// Reads a list of items after its `(`.
 #[tactic(auto, unfolding(crate::specs::Items::item_list_at))]
 pub fn item_list(alloc: Global, bytes: &[u8]) -> Result<(Items<'_>, &[u8]), ParseError>
     ensures { ParsesAs (λ x. (x.0, x.1.now)) result (item_list_at bytes.now) }

@@ -6,7 +6,7 @@ ghost use Rattle.imap_grammar.specs.ItemData.{items_data_of};
 use crate::response::Item;
 use std::marker::Model;
 
-/// The items of a FETCH in their order, seen as the list of what each tells.
+/// The items of a FETCH in their order. Contracts see the list of their data.
 #[derive(Drop)]
 pub struct Items<'a> {
     items: Vec<Item<'a>>,

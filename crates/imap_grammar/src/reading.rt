@@ -1,4 +1,4 @@
-//! A unit as a response (RFC 9051 §7).
+//! Reads a unit as a response (RFC 9051 §7).
 
 ghost use Rattle.std.specs.Prelude.{◌≡◌};
 ghost use Rattle.imap_values.specs.Words.{ParsesAs};
@@ -25,7 +25,7 @@ fn response_line(alloc: Global, bytes: &[u8]) -> Result<Response<'_>, ParseError
     }
 }
 
-/// The response that one whole unit is, its last CR LF counted; none where the grammar has none.
+/// Reads one whole unit, with its last CR LF, as a response. Returns `None` if and only if it is not in the grammar.
 #[tactic(auto, unfolding(crate::specs::Response::response_of))]
 pub fn read_response(alloc: Global, unit: &[u8]) -> Result<Option<Response<'_>>, AllocError>
     ensures { ReadsResponse result (response_of unit.now) }

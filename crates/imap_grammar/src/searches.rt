@@ -1,4 +1,4 @@
-//! Extended searches in a unit (RFC 4731 §3.1).
+//! Responses to extended searches (RFC 4731 §3.1).
 
 ghost use Rattle.std.specs.Prelude.{◌≡◌, None, length};
 ghost use Rattle.imap_values.specs.Lents.{bytes_of};
@@ -8,10 +8,13 @@ ghost use Rattle.imap_values.specs.Words.{ParsesAs};
 ghost use Rattle.imap_grammar.specs.Searches.{skip_prefix_at, tag_at, correlator_at, is_word_end, skip_uid, pair_at, all_value_or, last_all_at, all_set_of, search_of};
 
 use imap_commands::UidSet;
-use imap_values::{Class, Lent, ParseError, begins_string, eq_ignore_case, expect_byte, expect_end, skip_value, starts_with_ignore_case, string, take_while1, uid_set};
+use imap_values::{
+    Class, Lent, ParseError, begins_string, eq_ignore_case, expect_byte, expect_end, skip_value,
+    starts_with_ignore_case, string, take_while1, uid_set,
+};
 use std::alloc::Global;
 
-/// Behind that text.
+/// Returns the bytes after a text, whatever the case of its letters.
 fn skip_prefix<'a>(text: &[u8], bytes: &'a [u8]) -> Result<&'a [u8], ParseError>
     ensures { ParsesAs (λ x. x.now) result (skip_prefix_at text.now bytes.now) }
 {
@@ -32,7 +35,7 @@ fn tag(alloc: Global, bytes: &[u8]) -> Result<(Lent<'_>, &[u8]), ParseError>
     Ok((Lent::Slice(tag), rest))
 }
 
-/// The tag of the command that asked.
+/// Reads the search correlator, which has the tag of the command.
 #[tactic(auto, unfolding(crate::specs::Searches::correlator_at))]
 fn correlator(alloc: Global, bytes: &[u8]) -> Result<(Lent<'_>, &[u8]), ParseError>
     ensures { ParsesAs (λ x. (bytes_of x.0, x.1.now)) result (correlator_at bytes.now) }
@@ -52,7 +55,7 @@ fn is_word_end(bytes: &[u8]) -> bool
     }
 }
 
-/// Behind the word UID, where it stands in front.
+/// The bytes after UID, if they begin with it.
 #[tactic(auto, unfolding(crate::specs::Searches::skip_uid))]
 fn skip_uid(bytes: &[u8]) -> &[u8]
     ensures { result.now ≡ skip_uid bytes.now }
@@ -64,7 +67,7 @@ fn skip_uid(bytes: &[u8]) -> &[u8]
     }
 }
 
-/// The name of a pair, where its value begins, and what follows it.
+/// Reads a pair, and returns its name, the bytes from its value on, and the rest.
 #[tactic(auto, unfolding(crate::specs::Searches::pair_at))]
 fn pair(bytes: &[u8]) -> Result<(&[u8], &[u8], &[u8]), ParseError>
     ensures { ParsesAs (λ x. (x.0.now, x.1.now, x.2.now)) result (pair_at bytes.now) }
@@ -78,10 +81,14 @@ fn pair(bytes: &[u8]) -> Result<(&[u8], &[u8], &[u8]), ParseError>
 fn all_value_or<'a>(found: Option<&'a [u8]>, name: &[u8], value: &'a [u8]) -> Option<&'a [u8]>
     ensures { slice_of result ≡ all_value_or (slice_of found.entry) name.now value.now }
 {
-    if eq_ignore_case(name, b"all") { Some(value) } else { found }
+    if eq_ignore_case(name, b"all") {
+        Some(value)
+    } else {
+        found
+    }
 }
 
-/// Where the value of the last ALL begins.
+/// Returns the bytes from the value of the last ALL on.
 fn last_all(bytes: &[u8]) -> Result<Option<&[u8]>, ParseError>
     ensures { ParsesAs (λ x. slice_of x) result (last_all_at (length bytes.now) None bytes.now) }
 {
@@ -115,7 +122,7 @@ fn all_set(alloc: Global, found: Option<&[u8]>) -> Result<Option<UidSet>, ParseE
     }
 }
 
-/// The tag of a search, and the set that ALL gives.
+/// Reads the tag of a search, and the set of ALL.
 #[tactic(auto, unfolding(crate::specs::Searches::search_of))]
 pub fn search(alloc: Global, rest: &[u8]) -> Result<(Lent<'_>, Option<UidSet>), ParseError>
     ensures { ParsesAs (λ x. (bytes_of x.0, membership_or_none x.1)) result (search_of rest.now) }

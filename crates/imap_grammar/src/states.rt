@@ -1,4 +1,4 @@
-//! States, tagged or not (RFC 9051 §7.1).
+//! Status responses, tagged or not (RFC 9051 §7.1).
 
 ghost use Rattle.std.specs.Prelude.{◌≡◌};
 ghost use Rattle.imap_values.specs.Words.{ParsesAs};
@@ -6,7 +6,9 @@ ghost use Rattle.imap_grammar.specs.Response.{data_of, state_word_of, ends_comma
 
 use crate::codes::code_and_text;
 use crate::response::{Response, Word};
-use imap_values::{Class, ParseError, eq_ignore_case, expect_byte, take_while, take_while1, text_after_word};
+use imap_values::{
+    Class, ParseError, eq_ignore_case, expect_byte, take_while, take_while1, text_after_word,
+};
 
 #[tactic(auto, unfolding(crate::specs::Response::state_word_of))]
 pub fn state_word(word: &[u8]) -> Option<Word>
@@ -27,7 +29,7 @@ pub fn state_word(word: &[u8]) -> Option<Word>
     }
 }
 
-/// Whether a tagged answer may have this word.
+/// Whether a command may complete with a word.
 fn ends_command(word: Word) -> bool
     ensures { result ≡ ends_command word }
 {
@@ -39,7 +41,7 @@ fn ends_command(word: Word) -> bool
     }
 }
 
-/// A tag, and how its command ended.
+/// Reads the completion of a command.
 #[tactic(auto, unfolding(crate::specs::Response::tagged_response_of))]
 pub fn tagged_response(bytes: &[u8]) -> Result<Response<'_>, ParseError>
     ensures { ParsesAs data_of result (tagged_response_of bytes.now) }
@@ -65,7 +67,7 @@ pub fn tagged_response(bytes: &[u8]) -> Result<Response<'_>, ParseError>
     }
 }
 
-/// An untagged state, behind its word.
+/// Reads an untagged status response after its word.
 #[tactic(auto, unfolding(crate::specs::Response::state_response_of))]
 pub fn state_response(word: Word, rest: &[u8]) -> Result<Response<'_>, ParseError>
     ensures { ParsesAs data_of result (state_response_of word rest.now) }

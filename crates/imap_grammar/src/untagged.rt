@@ -1,4 +1,4 @@
-//! Untagged responses, behind their `* ` (RFC 9051 §7.2 to §7.5).
+//! Untagged responses, after their `* ` (RFC 9051 §7.2 to §7.5).
 
 ghost use Rattle.std.specs.Prelude.{◌≡◌};
 ghost use Rattle.imap_values.specs.Lents.{bytes_of};
@@ -9,10 +9,14 @@ use crate::fetch::item_list;
 use crate::response::Response;
 use crate::searches::search;
 use crate::states::{state_response, state_word};
-use imap_values::{Class, Lent, ParseError, Slices, all_in_class, begins_string, eq_ignore_case, expect_byte, expect_end, is_nil, number, quoted_raw, split_words, starts_with_ignore_case, string, take_while1, text_after_word, uid_set, word_list};
+use imap_values::{
+    Class, Lent, ParseError, Slices, all_in_class, begins_string, eq_ignore_case, expect_byte,
+    expect_end, is_nil, number, quoted_raw, split_words, starts_with_ignore_case, string,
+    take_while1, text_after_word, uid_set, word_list,
+};
 use std::alloc::Global;
 
-/// The words that are read.
+/// The responses that begin with a word.
 #[derive(Clone, Copy)]
 pub enum UntaggedKind {
     Capability,
@@ -23,7 +27,7 @@ pub enum UntaggedKind {
     Other,
 }
 
-/// The words that are read behind a number.
+/// The responses that begin with a number.
 #[derive(Clone, Copy)]
 pub enum CountKind {
     Exists,
@@ -66,7 +70,7 @@ fn count_kind(word: &[u8]) -> CountKind
     }
 }
 
-/// The words on the line of CAPABILITY or ENABLED.
+/// Reads the words of CAPABILITY or ENABLED.
 #[tactic(auto, unfolding(crate::specs::Response::line_words_of))]
 fn line_words(alloc: Global, rest: &[u8]) -> Result<Slices<'_>, ParseError>
     ensures { ParsesAs (λ x. x) result (line_words_of rest.now) }
@@ -78,7 +82,7 @@ fn line_words(alloc: Global, rest: &[u8]) -> Result<Slices<'_>, ParseError>
     Ok(split_words(alloc, text)?)
 }
 
-/// Behind the separator of a mailbox's levels: NIL or a quoted string.
+/// Skips the hierarchy separator of a mailbox: NIL or a quoted string.
 #[tactic(auto, unfolding(crate::specs::Response::separator_at))]
 fn separator(bytes: &[u8]) -> Result<&[u8], ParseError>
     ensures { ParsesAs (λ x. x.now) result (separator_at bytes.now) }
@@ -91,7 +95,7 @@ fn separator(bytes: &[u8]) -> Result<&[u8], ParseError>
     Ok(rest)
 }
 
-/// The name of a mailbox: a string, or all bytes up to a space.
+/// Reads the name of a mailbox: a string, or the bytes up to a space.
 #[tactic(auto, unfolding(crate::specs::Response::mailbox_at))]
 fn mailbox(alloc: Global, bytes: &[u8]) -> Result<(Lent<'_>, &[u8]), ParseError>
     ensures { ParsesAs (λ x. (bytes_of x.0, x.1.now)) result (mailbox_at bytes.now) }
@@ -112,7 +116,7 @@ fn attributes(alloc: Global, rest: &[u8]) -> Result<(Slices<'_>, &[u8]), ParseEr
     word_list(alloc, inner)
 }
 
-/// A mailbox (RFC 9051 §7.3.1).
+/// Reads a mailbox (RFC 9051 §7.3.1). Extended data may follow it after a space.
 #[tactic(auto, unfolding(crate::specs::Response::list_of))]
 fn list(alloc: Global, rest: &[u8]) -> Result<Response<'_>, ParseError>
     ensures { ParsesAs data_of result (list_of rest.now) }
@@ -124,7 +128,7 @@ fn list(alloc: Global, rest: &[u8]) -> Result<Response<'_>, ParseError>
     Ok(Response::List { attributes, name })
 }
 
-/// Whether (EARLIER) stands in front, and what follows it.
+/// Whether VANISHED has `(EARLIER)`, and the rest.
 #[tactic(auto, unfolding(crate::specs::Response::earlier_at))]
 fn earlier(bytes: &[u8]) -> (bool, &[u8])
     ensures earlier { result.0 ≡ (earlier_at bytes.now).0 }
@@ -136,7 +140,7 @@ fn earlier(bytes: &[u8]) -> (bool, &[u8])
     (false, bytes)
 }
 
-/// UIDs that are gone (RFC 7162 §3.2.10).
+/// Reads expunged UIDs (RFC 7162 §3.2.10).
 #[tactic(auto, unfolding(crate::specs::Response::vanished_of))]
 fn vanished(alloc: Global, rest: &[u8]) -> Result<Response<'_>, ParseError>
     ensures { ParsesAs data_of result (vanished_of rest.now) }
@@ -177,7 +181,12 @@ fn fetch(alloc: Global, number: u32, rest: &[u8]) -> Result<Response<'_>, ParseE
     Ok(Response::Fetch { number, items })
 }
 
-fn count_response(alloc: Global, count: CountKind, number: u32, rest: &[u8]) -> Result<Response<'_>, ParseError>
+fn count_response(
+    alloc: Global,
+    count: CountKind,
+    number: u32,
+    rest: &[u8],
+) -> Result<Response<'_>, ParseError>
     ensures { ParsesAs data_of result (count_response_of count number rest.now) }
 {
     match count {
@@ -194,9 +203,13 @@ fn count_response(alloc: Global, count: CountKind, number: u32, rest: &[u8]) -> 
     }
 }
 
-/// A number and a word.
+/// Reads a response that begins with a number.
 #[tactic(auto, unfolding(crate::specs::Response::number_response_of))]
-fn number_response<'a>(alloc: Global, digits: &'a [u8], bytes: &'a [u8]) -> Result<Response<'a>, ParseError>
+fn number_response<'a>(
+    alloc: Global,
+    digits: &'a [u8],
+    bytes: &'a [u8],
+) -> Result<Response<'a>, ParseError>
     ensures { ParsesAs data_of result (number_response_of digits.now bytes.now) }
 {
     let (n, _) = number(digits, 4_294_967_295)?;

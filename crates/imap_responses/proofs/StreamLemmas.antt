@@ -1,17 +1,17 @@
 -- Responses taken one after another.
-use Rattle.std.proofs.Common.{◌≡◌, ℕ, ◌+◌, ◌<◌, Bool, true, false, List, [], ◌∷◌, ◌++◌, length, take, drop, get_or, refl, sym, ap, subst, ◌∙◌, append_assoc, Option, Some, None, Result, Ok, Err, ◌⊎◌, inl, inr, arith}
+use Rattle.std.proofs.Common.{◌≡◌, ℕ, ◌+◌, ◌<◌, Bool, true, List, ◌++◌, length, take, drop, get_or, sym, ap, subst, ◌∙◌, append_assoc, Option, Some, None, Result, Ok, Err, inl, inr}
 use Rattle.std.specs.Prelude.{IsSome}
-use Rattle.std.specs.List.{concat, AllByRecursion}
+use Rattle.std.specs.List.{concat}
 use Rattle.std.specs.Global.{Vec}
-use Rattle.imap_framing.specs.Units.{IsUnit, IsIncomplete, HasTooLongLiteral}
-use Rattle.imap_framing.specs.Cuts.{Cut, with_bytes, GivesUnit}
-use Rattle.imap_framing.specs.Streams.{SplitsStream, TakesParts, bytes_of_vecs}
-use Rattle.imap_framing.proofs.StreamLemmas.{Goes, goes_on, ends_before, too_long_more, gives_less}
+use Rattle.imap_framing.specs.Units.{IsIncomplete}
+use Rattle.imap_framing.specs.Cuts.{with_bytes}
+use Rattle.imap_framing.specs.Streams.{SplitsStream, bytes_of_vecs}
+use Rattle.imap_framing.proofs.StreamLemmas.{goes_on, ends_before, too_long_more, gives_less}
 use Rattle.imap_framing.proofs.LawLemmas.{apart, open_none, long_none, open_not_long, once}
 use Rattle.imap_responses.specs.declared.fault.ReadFault.{ReadFault}
 use Rattle.imap_responses.specs.declared.fault.ReadFault.TheVariants.{Damaged, Memory}
 use Rattle.imap_grammar.specs.Response.{ResponseData, response_of}
-use Rattle.imap_responses.specs.ReaderStates.{ReaderState, IsResponse, BeginsWithNonResponse, IsDamage, GivesResponse, AdvancesReader}
+use Rattle.imap_responses.specs.ReaderStates.{ReaderState, IsResponse, IsDamage, GivesResponse, AdvancesReader}
 use Rattle.imap_responses.specs.ResponseStreams.{TakesAllResponses, ReadsResponses, IsEnd}
 
 abbrev is_ok : Bool → Result Bool ReadFault

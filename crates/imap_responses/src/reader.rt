@@ -1,4 +1,4 @@
-//! Responses from the pieces in which a server's bytes come.
+//! Reads responses from bytes that arrive in pieces.
 ghost use Rattle.std.specs.Prelude.{◌≡◌, false, true, IsSome, Some, IfOk, IfErr};
 ghost use Rattle.imap_framing.specs.Cuts.{empty_cut};
 ghost use Rattle.imap_responses.specs.declared.fault.ReadFault.TheVariants as faults;
@@ -6,15 +6,15 @@ ghost use Rattle.imap_grammar.specs.Response.{response_of, data_of};
 ghost use Rattle.imap_responses.specs.ReaderStates.{ReaderState, FeedsReader, ChecksUnit, AdvancesReader, NextResponseIs, TellsIfResponse};
 
 use crate::fault::ReadFault;
-use imap_grammar::{Response, read_response};
 use imap_framing::UnitReader;
+use imap_grammar::{Response, read_response};
 use std::alloc::{AllocError, Global};
 use std::marker::Model;
 
-/// The bytes that came in one dial, and the responses that they hold.
+/// A buffer for the bytes of one connection, from which responses are read.
 ///
-/// `while reader.advance()?` with `reader.current()?` goes through the responses that are there. `next` does both, but a caller knows
-/// only from the other two what the reader holds afterwards.
+/// A loop `while reader.advance()?` with `reader.current()?` reads the responses so far. `next` does both, but only the contracts of
+/// the other two say what state the reader is in afterwards.
 #[derive(Drop)]
 pub struct Reader {
     alloc: Global,
@@ -30,7 +30,7 @@ impl Model for Reader {
     ghost view = { λ r. record { cut = r.units; damaged = r.damaged } };
 }
 
-/// Whether a unit is a response: read and dropped.
+/// Whether a unit is a response.
 fn is_response(alloc: Global, unit: &[u8]) -> Result<bool, AllocError>
     ensures { TellsIfResponse result unit.now }
 {
@@ -42,7 +42,7 @@ fn is_response(alloc: Global, unit: &[u8]) -> Result<bool, AllocError>
 }
 
 impl Reader {
-    /// A reader of a empty_cut dial.
+    /// Creates a reader of a new connection.
     pub fn new(alloc: Global) -> Reader
         ensures { result ≡ record { cut = empty_cut; damaged = false } }
     {
@@ -53,7 +53,7 @@ impl Reader {
         }
     }
 
-    /// Appends bytes. A dial has fewer than 2 ^ 64; out of memory answers those that would be more.
+    /// Appends bytes. A connection has fewer than 2^64 bytes; more are refused as out of memory.
     pub fn feed(&mut self, bytes: &[u8]) -> Result<(), ReadFault>
         ensures { FeedsReader self.old bytes.now result self.new }
     {
@@ -65,7 +65,7 @@ impl Reader {
         }
     }
 
-    /// Goes to the next response. `false` says that the rest begins with no whole unit, and is no damage.
+    /// Advances to the next response. Returns `false` if the next unit is incomplete.
     pub fn advance(&mut self) -> Result<bool, ReadFault>
         ensures { AdvancesReader self.old result self.new }
     {
@@ -79,7 +79,7 @@ impl Reader {
         }
     }
 
-    /// Keeps the unit that was just given if it is a response, and gives it back if not.
+    /// Keeps the unit that was just given if it is a response, and else gives it back.
     fn check_unit(&mut self) -> Result<bool, ReadFault>
         requires { self.old.damaged ≡ false }
         ensures { ChecksUnit self.old result self.new }
@@ -97,7 +97,7 @@ impl Reader {
         }
     }
 
-    /// Reads nothing from here on.
+    /// Marks the reader as damaged: it reads no more responses.
     fn mark_damaged(&mut self) -> ReadFault
         ensures equals { result ≡ faults.Damaged self.old.cut.at }
         ensures marks { self.new ≡ record { cut = self.old.cut; damaged = true } }
@@ -114,7 +114,7 @@ impl Reader {
         }
     }
 
-    /// The response that the reader went to last; its text is lent from the reader. No bytes were with_bytes since.
+    /// Returns the response that the reader advanced to last, if no bytes were fed since. It borrows from the reader.
     pub fn current(&self) -> Result<Response<'_>, ReadFault>
         requires { IsSome (response_of self.now.cut.given) }
         ensures equals { IfOk result (λ r. response_of self.now.cut.given ≡ Some (data_of r)) }
@@ -127,14 +127,14 @@ impl Reader {
         }
     }
 
-    /// The bytes of that response.
+    /// The unit of that response.
     pub fn unit(&self) -> &[u8]
         ensures { result.now ≡ self.now.cut.given }
     {
         self.units.unit()
     }
 
-    /// The next response, if there is one.
+    /// Returns the next response, or `None` if the next unit is incomplete.
     pub fn next(&mut self) -> Result<Option<Response<'_>>, ReadFault>
         ensures { NextResponseIs self.old result }
     {

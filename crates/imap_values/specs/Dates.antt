@@ -4,10 +4,16 @@ use Rattle.imap_commands.specs.Bytes.{space, plus_sign, hyphen, is_digit}
 use Rattle.jiff_core.specs.declared.error.Error.{Error}
 use Rattle.jiff_fmt.specs.Rfc2822.{timestamp}
 
-abbrev letter_a letter_d letter_s capital_d : ℕ
+abbrev pub letter_a : ℕ
 letter_a = 97
+
+abbrev pub letter_d : ℕ
 letter_d = 100
+
+abbrev pub letter_s : ℕ
 letter_s = 115
+
+abbrev pub capital_d : ℕ
 capital_d = 68
 
 abbrev pub is_letter : ℕ → Bool

@@ -2,7 +2,7 @@
 use Rattle.std.specs.Prelude.{ℕ, zero, suc, min, max, Bool, true, false, ◌==◌, if◌then◌else◌, List, [], ◌∷◌, length, Option, Some, None}
 use Rattle.imap_commands.specs.Bytes.{comma, colon}
 use Rattle.imap_commands.specs.declared.uid_set.UidRange.{UidRange}
-use Rattle.imap_commands.specs.UidSets.{has}
+use Rattle.imap_commands.specs.UidSets.{contains_uid}
 use Rattle.imap_values.specs.Words.{◌>>=◌, positive_at}
 
 abbrev pub range_between : ℕ → ℕ → UidRange
@@ -35,7 +35,7 @@ ranges_at (suc n) bytes = range_at bytes >>= λ r. let c = comma_at r.1 in conti
 
 -- a set as its membership test: a set has many spellings
 abbrev pub membership : List UidRange → ℕ → Bool
-membership ranges = λ uid. has uid ranges
+membership ranges = λ uid. contains_uid uid ranges
 
 abbrev pub membership_or_none : Option (List UidRange) → Option (ℕ → Bool)
 membership_or_none None = None

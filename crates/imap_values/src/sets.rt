@@ -1,7 +1,7 @@
 //! Sets of UIDs (RFC 9051 §9, uid-set).
 
 ghost use Rattle.std.specs.Prelude.{◌≡◌, ◌≤◌, IfOk, length};
-ghost use Rattle.imap_commands.specs.UidSets.{has};
+ghost use Rattle.imap_commands.specs.UidSets.{contains_uid};
 ghost use Rattle.imap_values.specs.Words.{ParsesAs};
 ghost use Rattle.imap_values.specs.Sets.{range_between, range_from_at, range_at, comma_at, ranges_at, membership, uid_set_at};
 

@@ -6,9 +6,9 @@ ghost use Rattle.imap_values.specs.Words.{ParsesAs, all_in_class};
 ghost use Rattle.imap_values.specs.declared.words.Class.TheVariants as classes;
 ghost use Rattle.imap_values.specs.Strings.{IsClosingQuote, NoQuoteBefore, unescape, quoted_raw_at, quoted_at, literal_at, literal8_at, string_at, begins_string, is_nil, nstring_at};
 
-use crate::lent::Lent;
 use crate::error::ParseError;
-use crate::words::{Class, eq_ignore_case, all_in_class, number};
+use crate::lent::Lent;
+use crate::words::{Class, all_in_class, eq_ignore_case, number};
 use mail_values::Bytes;
 use memchr::memchr2;
 use std::alloc::{AllocError, Global};

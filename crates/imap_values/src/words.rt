@@ -5,8 +5,8 @@ ghost use Rattle.std.specs.List.{prefix_len};
 ghost use Rattle.imap_values.specs.Slices.{slices_of};
 ghost use Rattle.imap_values.specs.Words.{ParsesAs, eq_ignore_case, starts_with_ignore_case, in_class, is_tag_byte, is_atom_byte, take_while_at, all_in_class, take_while1_at, byte_at, end_at, number_at, positive_at, value_of, words_of, words_from, nonempty_word, word_list_at, text_after_word_at};
 
-use crate::slices::Slices;
 use crate::error::ParseError;
+use crate::slices::Slices;
 use std::alloc::{AllocError, Global};
 
 /// The classes of bytes that words are made of.

@@ -63,6 +63,7 @@ fn literals_go_on(rt: HostRuntime) -> Result<(), Fail> {
         (b"* X {}\r\n* X {3+}\r\n", "* X {}|* X {3+}|.."),
         (b"* X {1{2}\r\nab\r\n", "* X {1{2}\r\nab|.."),
         (b"* X {2} \r\n* X 2}\r\n", "* X {2} |* X 2}|.."),
+        (b"* X ~{3}\r\n\r\n)\r\n", "* X ~{3}\r\n\r\n)|.."),
     ] {
         assert_eq!(rt; shown(alloc, stream)?.as_str(), want);
     }

@@ -1,5 +1,5 @@
-use imap_grammar::{Code, Item, Items, Lent, Memory, Response, Slices, Word, read_response};
 use imap_commands::UidSet;
+use imap_grammar::{Code, Item, Items, Lent, Memory, Response, Slices, Word, read_response};
 use std::alloc::Global;
 use std::test::Fail;
 
@@ -315,6 +315,8 @@ fn reads_mailboxes(rt: HostRuntime) -> Result<(), Fail> {
             "list \\Drafts| [Drafts]",
         ),
         ("* LIST () \"/\" NIL\r\n", "list  [NIL]"),
+        ("* LIST () NIL ~{4}\r\nSent\r\n", "list  [Sent]"),
+        ("* LIST () NIL ~\r\n", "list  [~]"),
     ] {
         assert_eq!(rt; told(alloc, unit)?.as_str(), want, "{unit}");
     }
@@ -334,6 +336,9 @@ fn reads_mailboxes_that_are_none(rt: HostRuntime) -> Result<(), Fail> {
         ("* LIST () \"/\" \r\n", "none"),
         ("* LIST \\Sent \"/\" a\r\n", "none"),
         ("* LIST () \"/\" \"a{1}\r\nb\"\r\n", "none"),
+        ("* LIST () \"/\" a\nb\r\n", "none"),
+        ("* LIST () \"/\" \"a\"b\r\n", "none"),
+        ("* LIST () \"/\" ~{3}\r\nab\r\n", "none"),
     ] {
         assert_eq!(rt; told(alloc, unit)?.as_str(), want, "{unit}");
     }
@@ -411,6 +416,16 @@ fn reads_fetched_texts(rt: HostRuntime) -> Result<(), Fail> {
             "* 1 FETCH (BODY[] \"\" BODY[1] {0}\r\n)\r\n",
             "fetch 1: body []; body []; ",
         ),
+        (
+            "* 1 FETCH (UID 3 BODY[] ~{6}\r\na\0\r\n))b)\r\n",
+            "fetch 1: uid 3; body [a\0\r\n))]; ",
+        ),
+        (
+            "* 1 FETCH (BODY[HEADER] ~{0}\r\n BODY[1] NIL)\r\n",
+            "fetch 1: header []; body NIL; ",
+        ),
+        ("* 1 FETCH (BODY[] ~a)\r\n", "none"),
+        ("* 1 FETCH (BODY[] ~{1+}\r\na)\r\n", "none"),
         ("* 1 FETCH (BODY[]  {1}\r\na)\r\n", "none"),
         ("* 1 FETCH (BODY[] a)\r\n", "none"),
     ] {
@@ -509,6 +524,9 @@ fn reads_fetches_that_are_none(rt: HostRuntime) -> Result<(), Fail> {
         ("* 1 FETCH (RFC822.SIZE 9223372036854775808)\r\n", "none"),
         ("* 1 FETCH (FLAGS \\Seen)\r\n", "none"),
         ("* 1 FETCH (FLAGS (\\Seen)\r\n", "none"),
+        ("* 1 FETCH ( 1)\r\n", "none"),
+        ("* 1 FETCH (UID 7  1)\r\n", "none"),
+        ("* 1 FETCH ( )\r\n", "none"),
     ] {
         assert_eq!(rt; told(alloc, unit)?.as_str(), want, "{unit}");
     }

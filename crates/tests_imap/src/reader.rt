@@ -1,4 +1,6 @@
-use imap_responses::{Item, Items, Memory, ReadFault, Reader, Response, Word, one_split, response_units};
+use imap_responses::{
+    Item, Items, Memory, ReadFault, Reader, Response, Word, one_split, response_units,
+};
 use std::alloc::Global;
 use std::test::Fail;
 

@@ -1,4 +1,4 @@
-use Rattle.std.proofs.Common.{◌≡◌, ◌+◌, ◌++◌, take, ap, ◌∙◌}
+use Rattle.std.proofs.Common.{◌≡◌, take, ap}
 use Rattle.std.specs.List.{concat}
 use Rattle.std.proofs.lemmas.Result.{err_from_is_err_and}
 use Rattle.imap_framing.specs.Cuts.{with_bytes}

@@ -1,4 +1,3 @@
-use Rattle.std.proofs.Common.{◌≡◌}
 use Rattle.imap_framing.specs.Streams.{bytes_of_vecs}
 use Rattle.imap_framing.proofs.StreamLemmas.{took_more, gives_less, bytes_of_vecs-push}
 use Rattle.imap_responses.specs.ReaderStates.{IsResponse, GivesResponse}
