@@ -1,6 +1,6 @@
 //! The responses of a server's stream.
 ghost use Rattle.std.specs.Prelude.{IsSome};
-ghost use Rattle.imap_responses.specs.Response.{response_of};
+ghost use Rattle.imap_grammar.specs.Response.{response_of};
 
 use imap_responses::{ReadFault, Reader, Response};
 use itoa::Buffer;

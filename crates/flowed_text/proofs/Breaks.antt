@@ -11,7 +11,7 @@ use Rattle.std.proofs.lemmas.List.Folds.{sum_by-replicate}
 use Rattle.std.proofs.lemmas.List.Sums.{count_by_more_no, count_by_more_yes, sum_by-append}
 use Rattle.flowed_text.specs.Paragraphs.{signature}
 use Rattle.flowed_text.proofs.Stuffing.{stuffed-first}
-use Rattle.flowed_text.specs.Flow.{begins_character, greatest, is_short, is_stuffed, least, line_end, may_end, prefix, whole_line, width}
+use Rattle.flowed_text.specs.Flow.{begins_character, greatest, is_short, is_stuffed, least, line_break, may_break, prefix, whole_line, width}
 
 -- ---- the least and the greatest number that passes
 
@@ -76,13 +76,13 @@ least-place p (suc n) =
 width-append : (xs ys : List ℕ) → width (xs ++ ys) ≡ width xs + width ys
 width-append xs ys = sum_by-append (λ b. cond (begins_character b) 1 0) xs ys
 
-width-marks : (depth : ℕ) (space : Bool) → width (replicate depth 62 ++ cond space (32 ∷ []) []) ≡ depth + cond space 1 0
-width-marks depth space =
+width-mark_count : (depth : ℕ) (space : Bool) → width (replicate depth 62 ++ cond space (32 ∷ []) []) ≡ depth + cond space 1 0
+width-mark_count depth space =
     width-append (replicate depth 62) (cond space (32 ∷ []) []) ∙ ap (λ n. n + width (cond space (32 ∷ []) [])) (sum_by-replicate (λ b. cond (begins_character b) 1 0) depth 62)
     ∙ elim space as (λ b. depth * 1 + width (cond b (32 ∷ []) []) ≡ depth + cond b 1 0) [ true ↦ omega arith | false ↦ omega arith ]
 
 pub width-prefix : (depth : ℕ) (text : List ℕ) → width (prefix depth text) ≡ depth + cond (is_stuffed depth text) 1 0
-width-prefix depth text = width-marks depth (is_stuffed depth text)
+width-prefix depth text = width-mark_count depth (is_stuffed depth text)
 
 pub width-none : (depth : ℕ) (text : List ℕ) → width (prefix depth text ++ take 0 text) ≡ depth + cond (is_stuffed depth text) 1 0
 width-none depth text = width-append (prefix depth text) [] ∙ ap (λ n. n + 0) (width-prefix depth text) ∙ omega arith
@@ -112,43 +112,43 @@ width-longer front text i j le =
 
 -- a line may end here, and it fits
 abbrev pub is_good : ℕ → List ℕ → ℕ → Bool
-is_good depth text size = may_end text size && is_short depth text size
+is_good depth text size = may_break text size && is_short depth text size
 
 -- the end of a line that is too wide
 abbrev wide_end : ℕ → List ℕ → Option ℕ
-wide_end depth text = option_or (greatest (is_good depth text) (length text)) (least (may_end text) (length text))
+wide_end depth text = option_or (greatest (is_good depth text) (length text)) (least (may_break text) (length text))
 
 whole : (depth : ℕ) (text : List ℕ) → width (prefix depth text ++ take (length text) text) ≡ width (whole_line depth text)
 whole depth text = ap (λ t. width (prefix depth text ++ t)) (take_all (length text) text (omega arith))
 
-pub line_end-none : (depth : ℕ) (text : List ℕ) → width (prefix depth text ++ take (length text) text) ≤ 76 → None ≡ line_end depth text
-unfolding line_end
-line_end-none depth text fits =
+pub line_break-none : (depth : ℕ) (text : List ℕ) → width (prefix depth text ++ take (length text) text) ≤ 76 → None ≡ line_break depth text
+unfolding line_break
+line_break-none depth text fits =
     sym (ap (λ b. cond b None (wide_end depth text)) (le-leb (width (whole_line depth text)) 76 (subst (λ n. n ≤ 76) (whole depth text) fits)))
 
 lt_along : (a b : ℕ) → 76 < a → a ≤ b → 76 < b
 lt_along a b low le = omega arith
 
 -- a line's own text is stuffed as the whole text is
-width-first : (depth : ℕ) (text : List ℕ) (size : ℕ) → 0 < size → may_end text size ≡ true → width (prefix depth (take size text) ++ take (size - 1) text) ≡ width (prefix depth text ++ take (size - 1) text)
+width-first : (depth : ℕ) (text : List ℕ) (size : ℕ) → 0 < size → may_break text size ≡ true → width (prefix depth (take size text) ++ take (size - 1) text) ≡ width (prefix depth text ++ take (size - 1) text)
 width-first depth text size some may =
     let space = and_parts (get_or text (size - 1) 0 == 32) (not (bytes_eq (take size text) signature)) may in
     ap (λ b. width ((replicate depth 62 ++ cond b (32 ∷ []) []) ++ take (size - 1) text)) (stuffed-first depth text size some space.0)
 
 -- no line that goes on past these bytes is short
 long_past : (depth : ℕ) (text : List ℕ) (size k : ℕ) → 76 < width (prefix depth text ++ take size text) → size < k → is_good depth text k ≡ false
-long_past depth text size k wide low = elim (cases_Bool (may_end text k)) [
+long_past depth text size k wide low = elim (cases_Bool (may_break text k)) [
   | inl may ↦
       let wider : 76 < width (prefix depth text ++ take (k - 1) text) = lt_along _ _ wide (width-longer (prefix depth text) text size (k - 1) (omega arith)) in
-      and_right (may_end text k) (is_short depth text k) (lt-leb (width (prefix depth (take k text) ++ take (k - 1) text)) 76 (subst (λ n. 76 < n) (sym (width-first depth text k (omega arith) may)) wider))
-  | inr never ↦ and_left (may_end text k) (is_short depth text k) never
+      and_right (may_break text k) (is_short depth text k) (lt-leb (width (prefix depth (take k text) ++ take (k - 1) text)) 76 (subst (λ n. 76 < n) (sym (width-first depth text k (omega arith) may)) wider))
+  | inr never ↦ and_left (may_break text k) (is_short depth text k) never
 ]
 
-pub line_end-wide : (depth : ℕ) (text : List ℕ) (size : ℕ) → size ≤ length text → 76 < width (prefix depth text ++ take size text)
-    → option_or (greatest (is_good depth text) size) (least (may_end text) (length text)) ≡ line_end depth text
-unfolding line_end
-line_end-wide depth text size within wide =
-    ap (λ o. option_or o (least (may_end text) (length text))) (sym (greatest-past (is_good depth text) size (length text) within (λ k low high. long_past depth text size k wide low)))
+pub line_break-wide : (depth : ℕ) (text : List ℕ) (size : ℕ) → size ≤ length text → 76 < width (prefix depth text ++ take size text)
+    → option_or (greatest (is_good depth text) size) (least (may_break text) (length text)) ≡ line_break depth text
+unfolding line_break
+line_break-wide depth text size within wide =
+    ap (λ o. option_or o (least (may_break text) (length text))) (sym (greatest-past (is_good depth text) size (length text) within (λ k low high. long_past depth text size k wide low)))
     ∙ sym (ap (λ b. cond b None (wide_end depth text)) (lt-leb (width (whole_line depth text)) 76
     (subst (λ n. 76 < n) (whole depth text) (lt_along _ _ wide (width-longer (prefix depth text) text size (length text) within)))))
 
@@ -156,9 +156,9 @@ line_end-wide depth text size within wide =
 pub record EndsAt (text : List ℕ) (end : ℕ) : Type 0 where
   pub some : 0 < end
   pub within : end ≤ length text
-  pub may : may_end text end ≡ true
+  pub may : may_break text end ≡ true
 
-place-ends : (text : List ℕ) (p : ℕ → Bool) (o : Option ℕ) → IfSome o (IsPlace p (length text)) → ((m : ℕ) → p m ≡ true → may_end text m ≡ true) → IfSome o (EndsAt text)
+place-ends : (text : List ℕ) (p : ℕ → Bool) (o : Option ℕ) → IfSome o (IsPlace p (length text)) → ((m : ℕ) → p m ≡ true → may_break text m ≡ true) → IfSome o (EndsAt text)
 place-ends text p None place may = tt
 place-ends text p (Some m) place may = record { some = place.0; within = place.1; may = may m place.2 }
 
@@ -166,14 +166,14 @@ place-if : (P : ℕ → Type 0) (b : Bool) (o : Option ℕ) → IfSome o P → I
 place-if P true o place = tt
 place-if P false o place = place
 
-pub line_end-place : (depth : ℕ) (text : List ℕ) → IfSome (line_end depth text) (EndsAt text)
-unfolding line_end
-line_end-place depth text =
+pub line_break-place : (depth : ℕ) (text : List ℕ) → IfSome (line_break depth text) (EndsAt text)
+unfolding line_break
+line_break-place depth text =
     let good = place-ends text (is_good depth text) (greatest (is_good depth text) (length text)) (greatest-place (is_good depth text) (length text))
-    (λ m may. (and_parts (may_end text m) (is_short depth text m) may).0) in
-    let any = place-ends text (may_end text) (least (may_end text) (length text)) (least-place (may_end text) (length text)) (λ m may. may) in
+    (λ m may. (and_parts (may_break text m) (is_short depth text m) may).0) in
+    let any = place-ends text (may_break text) (least (may_break text) (length text)) (least-place (may_break text) (length text)) (λ m may. may) in
     place-if (EndsAt text) (leb (width (whole_line depth text)) 76) (wide_end depth text)
-    (place-or (EndsAt text) (greatest (is_good depth text) (length text)) (least (may_end text) (length text)) good any)
+    (place-or (EndsAt text) (greatest (is_good depth text) (length text)) (least (may_break text) (length text)) good any)
 
 -- ---- a search through the bytes of a text
 
@@ -186,7 +186,7 @@ pub record Scanned (depth : ℕ) (text : List ℕ) (size wide : ℕ) (last : Opt
 pub scanned-start : (depth : ℕ) (text : List ℕ) → Scanned depth text 0 (depth + cond (is_stuffed depth text) 1 0) None
 scanned-start depth text = record { within = omega arith; width_is = sym (width-none depth text); last_is = refl }
 
-short_here : (depth : ℕ) (text : List ℕ) (size : ℕ) → width (prefix depth text ++ take size text) ≤ 76 → may_end text (size + 1) ≡ true → is_short depth text (size + 1) ≡ true
+short_here : (depth : ℕ) (text : List ℕ) (size : ℕ) → width (prefix depth text ++ take size text) ≤ 76 → may_break text (size + 1) ≡ true → is_short depth text (size + 1) ≡ true
 short_here depth text size fits may =
     let same : size ≡ size + 1 - 1 = omega arith in
     le-leb (width (prefix depth (take (size + 1) text) ++ take (size + 1 - 1) text)) 76
@@ -201,7 +201,7 @@ and_when true b holds = holds refl
 and_when false b holds = refl
 
 pub scanned-more : (depth : ℕ) (text : List ℕ) (size wide : ℕ) (last : Option ℕ) (here may : Bool) → Scanned depth text size wide last → wide ≤ 76 → (size ≡ length text → ⊥)
-    → here ≡ begins_character (get_or text size 0) → may ≡ may_end text (size + 1) → Scanned depth text (size + 1) (wide + cond here 1 0) (cond may (Some (size + 1)) last)
+    → here ≡ begins_character (get_or text size 0) → may ≡ may_break text (size + 1) → Scanned depth text (size + 1) (wide + cond here 1 0) (cond may (Some (size + 1)) last)
 scanned-more depth text size wide last here may scanned narrow inside first m =
     let lt : size < length text = omega (arith, scanned.within) in
     let fits : width (prefix depth text ++ take size text) ≤ 76 = subst (λ n. n ≤ 76) scanned.width_is narrow in
@@ -209,25 +209,25 @@ scanned-more depth text size wide last here may scanned narrow inside first m =
       within = omega arith;
       width_is = ap (λ n. n + cond here 1 0) scanned.width_is ∙ sym (width-more (prefix depth text) text size here lt first);
       last_is = scanned-last (is_good depth text) size may last scanned.last_is
-          (and_when (may_end text (size + 1)) (is_short depth text (size + 1)) (short_here depth text size fits) ∙ sym m);
+          (and_when (may_break text (size + 1)) (is_short depth text (size + 1)) (short_here depth text size fits) ∙ sym m);
     }
 
-pub scanned-whole : (depth : ℕ) (text : List ℕ) (size wide : ℕ) (last : Option ℕ) → Scanned depth text size wide last → wide ≤ 76 → size ≡ length text → None ≡ line_end depth text
+pub scanned-whole : (depth : ℕ) (text : List ℕ) (size wide : ℕ) (last : Option ℕ) → Scanned depth text size wide last → wide ≤ 76 → size ≡ length text → None ≡ line_break depth text
 scanned-whole depth text size wide last scanned narrow end =
-    line_end-none depth text (subst (λ n. n ≤ 76) (scanned.width_is ∙ ap (λ n. width (prefix depth text ++ take n text)) end) narrow)
+    line_break-none depth text (subst (λ n. n ≤ 76) (scanned.width_is ∙ ap (λ n. width (prefix depth text ++ take n text)) end) narrow)
 
-pub scanned-wide : (depth : ℕ) (text : List ℕ) (size wide : ℕ) (last : Option ℕ) → Scanned depth text size wide last → 76 < wide → option_or last (least (may_end text) (length text)) ≡ line_end depth text
+pub scanned-wide : (depth : ℕ) (text : List ℕ) (size wide : ℕ) (last : Option ℕ) → Scanned depth text size wide last → 76 < wide → option_or last (least (may_break text) (length text)) ≡ line_break depth text
 scanned-wide depth text size wide last scanned over =
-    ap (λ o. option_or o (least (may_end text) (length text))) scanned.last_is
-    ∙ line_end-wide depth text size scanned.within (subst (λ n. 76 < n) scanned.width_is over)
+    ap (λ o. option_or o (least (may_break text) (length text))) scanned.last_is
+    ∙ line_break-wide depth text size scanned.within (subst (λ n. 76 < n) scanned.width_is over)
 
 -- the same, where the bytes are those of the text
 pub scanned-step : (depth : ℕ) (bytes text : List ℕ) (size wide more : ℕ) (last : Option ℕ) (here may : Bool) → bytes ≡ text → Scanned depth text size wide last → wide ≤ 76 → (size ≡ length bytes → ⊥)
-    → more ≡ cond here 1 0 → here ≡ begins_character (get_or bytes size 0) → may ≡ may_end bytes (size + 1) → Scanned depth text (size + 1) (wide + more) (cond may (Some (size + 1)) last)
+    → more ≡ cond here 1 0 → here ≡ begins_character (get_or bytes size 0) → may ≡ may_break bytes (size + 1) → Scanned depth text (size + 1) (wide + more) (cond may (Some (size + 1)) last)
 scanned-step depth bytes text size wide more last here may same scanned narrow inside m first e =
     subst (λ n. Scanned depth text (size + 1) (wide + n) (cond may (Some (size + 1)) last)) (sym m)
     (scanned-more depth text size wide last here may scanned narrow (λ end. inside (end ∙ ap length (sym same)))
-    (first ∙ ap (λ t. begins_character (get_or t size 0)) same) (e ∙ ap (λ t. may_end t (size + 1)) same))
+    (first ∙ ap (λ t. begins_character (get_or t size 0)) same) (e ∙ ap (λ t. may_break t (size + 1)) same))
 
 bool_byte-cond : (b : Bool) → bool_byte b ≡ cond b 1 0
 bool_byte-cond true = refl
@@ -245,8 +245,8 @@ space_of text None place = tt
 space_of text (Some end) place =
     (place.some, eqb-true (get_or text (end - 1) 0) 32 (and_parts (get_or text (end - 1) 0 == 32) (not (bytes_eq (take end text) signature)) place.may).0)
 
-pub place_within : (depth : ℕ) (text : List ℕ) (r : Option ℕ) → r ≡ line_end depth text → IfSome r (λ end. end ≤ length text)
-place_within depth text r e = within_of text r (subst (λ (o : Option ℕ). IfSome o (EndsAt text)) (sym e) (line_end-place depth text))
+pub place_within : (depth : ℕ) (text : List ℕ) (r : Option ℕ) → r ≡ line_break depth text → IfSome r (λ end. end ≤ length text)
+place_within depth text r e = within_of text r (subst (λ (o : Option ℕ). IfSome o (EndsAt text)) (sym e) (line_break-place depth text))
 
-pub place_space : (depth : ℕ) (text : List ℕ) (r : Option ℕ) → r ≡ line_end depth text → IfSome r (λ end. (0 < end) × (get_or text (end - 1) 0 ≡ 32))
-place_space depth text r e = space_of text r (subst (λ (o : Option ℕ). IfSome o (EndsAt text)) (sym e) (line_end-place depth text))
+pub place_space : (depth : ℕ) (text : List ℕ) (r : Option ℕ) → r ≡ line_break depth text → IfSome r (λ end. (0 < end) × (get_or text (end - 1) 0 ≡ 32))
+place_space depth text r e = space_of text r (subst (λ (o : Option ℕ). IfSome o (EndsAt text)) (sym e) (line_break-place depth text))

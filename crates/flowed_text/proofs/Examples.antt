@@ -5,7 +5,7 @@ use Rattle.std.specs.List.{flat_map}
 use Rattle.flowed_text.specs.declared.Para.{Para}
 use Rattle.flowed_text.specs.Lines.{lines}
 use Rattle.flowed_text.specs.Paragraphs.{paras_of}
-use Rattle.flowed_text.specs.Flow.{line_end, flow, width}
+use Rattle.flowed_text.specs.Flow.{line_break, flow, width}
 
 abbrev crlf : List ℕ
 crlf = 13 ∷ 10 ∷ []
@@ -68,12 +68,12 @@ no_lines = refl
 -- stuffing: after marks, and before a space, a `>` and `From `
 stuffed : flow (para 2 (codes "deep") ∷ para 0 (codes " x") ∷ para 0 (codes ">x") ∷ para 0 (codes "From here") ∷ para 0 (codes "From") ∷ [])
     ≡ codes ">> deep" ++ crlf ++ codes "  x" ++ crlf ++ codes " >x" ++ crlf ++ codes " From here" ++ crlf ++ codes "From" ++ crlf
-unfolding flow line_end
+unfolding flow line_break
 stuffed = refl
 
 -- an empty paragraph is an empty line
 empty : flow (para 0 [] ∷ para 1 [] ∷ para 0 (codes "-- ") ∷ []) ≡ crlf ++ codes "> " ++ crlf ++ codes "-- " ++ crlf
-unfolding flow line_end
+unfolding flow line_break
 empty = refl
 
 abbrev x's : ℕ → List ℕ
@@ -81,17 +81,17 @@ x's n = replicate n 120
 
 -- a word of 100 characters stands on a line of its own
 long_word : flow (para 0 (codes "a " ++ x's 100 ++ codes " b") ∷ []) ≡ codes "a " ++ crlf ++ x's 100 ++ codes " " ++ crlf ++ codes "b" ++ crlf
-unfolding flow line_end
+unfolding flow line_break
 long_word = refl
 
 -- a line that goes on with `From ` is stuffed too
 from_here : flow (para 0 (x's 74 ++ codes " From here") ∷ []) ≡ x's 74 ++ codes " " ++ crlf ++ codes " From here" ++ crlf
-unfolding flow line_end
+unfolding flow line_break
 from_here = refl
 
 -- 76 characters stand before the flowing space, and two spaces at a break are a flowing one and a stuffed line
 two_spaces : flow (para 0 (x's 76 ++ codes "  b") ∷ []) ≡ x's 76 ++ codes " " ++ crlf ++ codes "  b" ++ crlf
-unfolding flow line_end
+unfolding flow line_break
 two_spaces = refl
 
 -- characters of four, three, two bytes and one
@@ -103,16 +103,16 @@ abbrev accented : ℕ → List ℕ
 accented n = flat_map (λ _. 195 ∷ 169 ∷ []) (x's n)
 
 characters : flow (para 0 (codes "a " ++ accented 74 ++ codes " b") ∷ []) ≡ codes "a " ++ accented 74 ++ codes " " ++ crlf ++ codes "b" ++ crlf
-unfolding flow line_end
+unfolding flow line_break
 characters = refl
 
 -- marks and the space after them are among the 76
 quoted : flow (para 3 (codes "a " ++ x's 70 ++ codes " b") ∷ para 3 (codes "a " ++ x's 71 ++ codes " b") ∷ [])
     ≡ codes ">>> a " ++ x's 70 ++ codes " " ++ crlf ++ codes ">>> b" ++ crlf ++ codes ">>> a " ++ crlf ++ codes ">>> " ++ x's 71 ++ codes " " ++ crlf ++ codes ">>> b" ++ crlf
-unfolding flow line_end
+unfolding flow line_break
 quoted = refl
 
 -- no line that flows is `-- `
 dashes : flow (para 0 (codes "-- " ++ x's 80) ∷ para 0 (codes "a -- " ++ x's 72) ∷ []) ≡ codes "-- " ++ x's 80 ++ crlf ++ codes "a -- " ++ crlf ++ x's 72 ++ crlf
-unfolding flow line_end
+unfolding flow line_break
 dashes = refl

@@ -1,20 +1,20 @@
--- Lines joined one after another.
+-- Lines join_lines one after another.
 use Rattle.std.proofs.Common.{◌≡◌, ◌≢◌, ℕ, ◌+◌, ◌-◌, ◌<◌, ◌≤◌, inl, inr, Bool, true, false, ◌&&◌, List, [], ◌∷◌, ◌++◌, length, take, Result, Ok, Err, not, refl, sym, ap, subst, ◌∙◌, arith, append_assoc, length-append}
 use Rattle.std.proofs.lemmas.Bool.{and_parts, cases_Bool, eq-eqb, ne_eqb, false≢true}
 use Rattle.std.proofs.Math.Seq.{take-append-add}
 use Rattle.std.specs.Prelude.{map, min, IfOk, string_bytes}
 use Rattle.std.specs.Str.{bytes_eq}
-use Rattle.flowed_text.specs.declared.reading.Begun.{Begun}
-use Rattle.flowed_text.specs.Reading.{continued, continued_by, para_of}
+use Rattle.flowed_text.specs.declared.reading.OpenPara.{OpenPara}
+use Rattle.flowed_text.specs.Reading.{continue_para, continue_open_para, para_of}
 use Rattle.flowed_text.specs.declared.Para.{Para}
 use Rattle.flowed_text.specs.Lines.{lines}
-use Rattle.flowed_text.specs.Paragraphs.{ends_in_space, flowed, flows, is_next, joined, marks, onto_first_para, paras_of, read_line, signature}
+use Rattle.flowed_text.specs.Paragraphs.{ends_in_space, joinable_text, is_flowing, first_has_depth, join_lines, mark_count, onto_first_para, paras_of, read_line, signature}
 
 -- ---- the marks of a line
 
-pub marks-none : (rest : List ℕ) → ((more : List ℕ) → rest ≢ 62 ∷ more) → marks rest ≡ 0
-marks-none [] other = refl
-marks-none (b ∷ rest) other = rw (ne_eqb b 62 (λ e. other rest (ap (λ k. k ∷ rest) e))) refl
+pub mark_count-none : (rest : List ℕ) → ((more : List ℕ) → rest ≢ 62 ∷ more) → mark_count rest ≡ 0
+mark_count-none [] other = refl
+mark_count-none (b ∷ rest) other = rw (ne_eqb b 62 (λ e. other rest (ap (λ k. k ∷ rest) e))) refl
 
 -- ---- texts that flow
 
@@ -22,9 +22,9 @@ not_empty : (text : List ℕ) → ends_in_space text ≡ true → 0 < length tex
 not_empty [] ends = absurd (false≢true ends)
 not_empty (b ∷ text) ends = omega arith
 
-flowed-append : (del_sp : Bool) (front text : List ℕ) → ends_in_space text ≡ true → flowed del_sp (front ++ text) ≡ front ++ flowed del_sp text
-flowed-append false front text ends = refl
-flowed-append true front text ends =
+joinable_text-append : (del_sp : Bool) (front text : List ℕ) → ends_in_space text ≡ true → joinable_text del_sp (front ++ text) ≡ front ++ joinable_text del_sp text
+joinable_text-append false front text ends = refl
+joinable_text-append true front text ends =
     let some : 0 < length text = not_empty text ends in
     let last : length (front ++ text) - 1 ≡ length front + (length text - 1) = omega (arith, length-append front text) in
     ap (λ n. take n (front ++ text)) last ∙ take-append-add front text (length text - 1)
@@ -33,33 +33,33 @@ onto-twice : (first second : List ℕ) (paras : List Para) → onto_first_para f
 onto-twice first second [] = refl
 onto-twice first second (para ∷ paras) = ap (λ t. record { depth = para.depth; text = t } ∷ paras) (sym (append_assoc first second para.text))
 
-continued-at : (del_sp : Bool) (front : List ℕ) (line : Para) (more : List Para)
-    → continued del_sp true (record { depth = line.depth; text = front }) (line ∷ more) ≡ continued del_sp (flows line.text) (record { depth = line.depth; text = flowed del_sp front ++ line.text }) more
-continued-at del_sp front line more = rw (eq-eqb line.depth line.depth refl) (elim (cases_Bool (flows line.text && is_next line.depth more)) [
+continue_para-at : (del_sp : Bool) (front : List ℕ) (line : Para) (more : List Para)
+    → continue_para del_sp true (record { depth = line.depth; text = front }) (line ∷ more) ≡ continue_para del_sp (is_flowing line.text) (record { depth = line.depth; text = joinable_text del_sp front ++ line.text }) more
+continue_para-at del_sp front line more = rw (eq-eqb line.depth line.depth refl) (elim (cases_Bool (is_flowing line.text && first_has_depth line.depth more)) [
   | inl goes ↦
-      let flowing = and_parts (ends_in_space line.text && not (bytes_eq line.text signature)) (is_next line.depth more) goes in
+      let flowing = and_parts (ends_in_space line.text && not (bytes_eq line.text signature)) (first_has_depth line.depth more) goes in
       let ends = and_parts (ends_in_space line.text) (not (bytes_eq line.text signature)) flowing.0 in
-      rw goes (onto-twice (flowed del_sp front) (flowed del_sp line.text) (joined del_sp more)
-      ∙ ap (λ t. onto_first_para t (joined del_sp more)) (sym (flowed-append del_sp (flowed del_sp front) line.text ends.0)))
+      rw goes (onto-twice (joinable_text del_sp front) (joinable_text del_sp line.text) (join_lines del_sp more)
+      ∙ ap (λ t. onto_first_para t (join_lines del_sp more)) (sym (joinable_text-append del_sp (joinable_text del_sp front) line.text ends.0)))
   | inr stops ↦ rw stops refl
 ])
 
 -- a paragraph that flows into a line goes on after that one
-pub continued-joined : (del_sp : Bool) (depth : ℕ) (front : List ℕ) (line : Para) (more : List Para) → line.depth ≡ depth
-    → continued del_sp true (record { depth = depth; text = front }) (line ∷ more) ≡ continued del_sp (flows line.text) (record { depth = depth; text = flowed del_sp front ++ line.text }) more
-continued-joined del_sp depth front line more same =
-    subst (λ d. continued del_sp true (record { depth = d; text = front }) (line ∷ more) ≡ continued del_sp (flows line.text) (record { depth = d; text = flowed del_sp front ++ line.text }) more)
-    same (continued-at del_sp front line more)
+pub continue_para-join_lines : (del_sp : Bool) (depth : ℕ) (front : List ℕ) (line : Para) (more : List Para) → line.depth ≡ depth
+    → continue_para del_sp true (record { depth = depth; text = front }) (line ∷ more) ≡ continue_para del_sp (is_flowing line.text) (record { depth = depth; text = joinable_text del_sp front ++ line.text }) more
+continue_para-join_lines del_sp depth front line more same =
+    subst (λ d. continue_para del_sp true (record { depth = d; text = front }) (line ∷ more) ≡ continue_para del_sp (is_flowing line.text) (record { depth = d; text = joinable_text del_sp front ++ line.text }) more)
+    same (continue_para-at del_sp front line more)
 
-pub joined_more : {E : Type 0} (r : Result Begun E) (items : List Para) (del_sp : Bool) (begun : Begun) (depth : ℕ) (text : List ℕ) (line : Para) → begun.flowing ≡ true → depth ≡ begun.depth → depth ≡ line.depth → text ≡ line.text
-    → IfOk r (λ next. para_of next ≡ record { depth = begun.depth; text = flowed del_sp (string_bytes begun.text) ++ text }) → IfOk r (λ next. next.flowing ≡ flows text)
-    → IfOk r (λ next. (more : List Para) → items ++ continued_by del_sp next more ≡ items ++ continued_by del_sp begun (line ∷ more))
+pub joined_more : {E : Type 0} (r : Result OpenPara E) (items : List Para) (del_sp : Bool) (begun : OpenPara) (depth : ℕ) (text : List ℕ) (line : Para) → begun.flowing ≡ true → depth ≡ begun.depth → depth ≡ line.depth → text ≡ line.text
+    → IfOk r (λ next. para_of next ≡ record { depth = begun.depth; text = joinable_text del_sp (string_bytes begun.text) ++ text }) → IfOk r (λ next. next.flowing ≡ is_flowing text)
+    → IfOk r (λ next. (more : List Para) → items ++ continue_open_para del_sp next more ≡ items ++ continue_open_para del_sp begun (line ∷ more))
 joined_more (Err e) items del_sp begun depth text line flowing same d t para last = tt
 joined_more (Ok next) items del_sp begun depth text line flowing same d t para last = λ more. ap (λ paras. items ++ paras) (
-    ap (λ f. continued del_sp f (para_of next) more) last ∙ ap (λ p. continued del_sp (flows text) p more) para
-    ∙ ap (λ s. continued del_sp (flows s) (record { depth = begun.depth; text = flowed del_sp (string_bytes begun.text) ++ s }) more) t
-    ∙ sym (continued-joined del_sp begun.depth (string_bytes begun.text) line more (sym d ∙ same))
-    ∙ ap (λ f. continued del_sp f (para_of begun) (line ∷ more)) (sym flowing)
+    ap (λ f. continue_para del_sp f (para_of next) more) last ∙ ap (λ p. continue_para del_sp (is_flowing text) p more) para
+    ∙ ap (λ s. continue_para del_sp (is_flowing s) (record { depth = begun.depth; text = joinable_text del_sp (string_bytes begun.text) ++ s }) more) t
+    ∙ sym (continue_para-join_lines del_sp begun.depth (string_bytes begun.text) line more (sym d ∙ same))
+    ∙ ap (λ f. continue_para del_sp f (para_of begun) (line ∷ more)) (sym flowing)
     )
 
 pub read_depth : (depth more whole : ℕ) → min (depth + more) 4294967295 ≡ min whole 4294967295 → depth ≤ 4294967295 → more ≡ 0 → depth ≡ min whole 4294967295
@@ -67,20 +67,20 @@ read_depth depth more whole same small none = omega arith
 
 pub paras_of-none : (text : List ℕ) (del_sp : Bool) → lines text ≡ [] → [] ≡ paras_of text del_sp
 unfolding paras_of
-paras_of-none text del_sp none = sym (ap (λ ls. joined del_sp (map read_line ls)) none)
+paras_of-none text del_sp none = sym (ap (λ ls. join_lines del_sp (map read_line ls)) none)
 
 pub paras_of-first : (text line rest : List ℕ) (del_sp : Bool) → lines text ≡ line ∷ lines rest
-    → continued del_sp (flows (read_line line).text) (read_line line) (map read_line (lines rest)) ≡ paras_of text del_sp
+    → continue_para del_sp (is_flowing (read_line line).text) (read_line line) (map read_line (lines rest)) ≡ paras_of text del_sp
 unfolding paras_of
-paras_of-first text line rest del_sp cut = sym (ap (λ ls. joined del_sp (map read_line ls)) cut)
+paras_of-first text line rest del_sp cut = sym (ap (λ ls. join_lines del_sp (map read_line ls)) cut)
 
-pub begun_first : (text line rest : List ℕ) (del_sp : Bool) (items : List Para) (begun : Begun) (depth : ℕ) (first : List ℕ) → items ≡ [] → lines text ≡ line ∷ lines rest
-    → depth ≡ (read_line line).depth → first ≡ (read_line line).text → para_of begun ≡ record { depth = depth; text = first } → begun.flowing ≡ flows first
-    → items ++ continued_by del_sp begun (map read_line (lines rest)) ≡ paras_of text del_sp
+pub begun_first : (text line rest : List ℕ) (del_sp : Bool) (items : List Para) (begun : OpenPara) (depth : ℕ) (first : List ℕ) → items ≡ [] → lines text ≡ line ∷ lines rest
+    → depth ≡ (read_line line).depth → first ≡ (read_line line).text → para_of begun ≡ record { depth = depth; text = first } → begun.flowing ≡ is_flowing first
+    → items ++ continue_open_para del_sp begun (map read_line (lines rest)) ≡ paras_of text del_sp
 begun_first text line rest del_sp items begun depth first none cut d t para flowing =
     let more = map read_line (lines rest) in
     let same : para_of begun ≡ read_line line = para ∙ ap (λ n. record { depth = n; text = first }) d ∙ ap (λ s. record { depth = (read_line line).depth; text = s }) t in
-    ap (λ ps. ps ++ continued_by del_sp begun more) none
-    ∙ ap (λ p. continued del_sp begun.flowing p more) same
-    ∙ ap (λ f. continued del_sp f (read_line line) more) (flowing ∙ ap flows t)
+    ap (λ ps. ps ++ continue_open_para del_sp begun more) none
+    ∙ ap (λ p. continue_para del_sp begun.flowing p more) same
+    ∙ ap (λ f. continue_para del_sp f (read_line line) more) (flowing ∙ ap is_flowing t)
     ∙ paras_of-first text line rest del_sp cut

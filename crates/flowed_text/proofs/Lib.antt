@@ -6,3 +6,4 @@ mod Written
 mod ReadBack
 mod RoundTrip
 mod Stuffing
+pub mod Room

@@ -6,30 +6,30 @@ use Rattle.std.proofs.lemmas.Bool.{cases_Bool, eqb-true, ne_eqb, eq-eqb, or_case
 use Rattle.std.proofs.lemmas.List.{append-nil, take-append-drop}
 use Rattle.std.proofs.lemmas.List.Elements.{All-head, All-tail, All-from_get_or}
 use Rattle.std.proofs.lemmas.List.Splits.{length-slice_split, slice_split_at, slice_split_none}
-use Rattle.flowed_text.specs.Lines.{after_ending, is_ending, lines, single_endings, without_empty_last, without_first}
+use Rattle.flowed_text.specs.Lines.{skip_line_ending, is_ending, lines, single_endings, without_empty_last, strip_first}
 
 -- ---- one byte that stands first
 
-pub without_first-here : (c b : ℕ) (rest : List ℕ) → b ≡ c → without_first c (b ∷ rest) ≡ rest
-without_first-here c b rest e = rw (eq-eqb b c e) refl
+pub strip_first-here : (c b : ℕ) (rest : List ℕ) → b ≡ c → strip_first c (b ∷ rest) ≡ rest
+strip_first-here c b rest e = rw (eq-eqb b c e) refl
 
-pub without_first-other : (c b : ℕ) (rest : List ℕ) → (b ≡ c → ⊥) → without_first c (b ∷ rest) ≡ b ∷ rest
-without_first-other c b rest other = rw (ne_eqb b c other) refl
+pub strip_first-other : (c b : ℕ) (rest : List ℕ) → (b ≡ c → ⊥) → strip_first c (b ∷ rest) ≡ b ∷ rest
+strip_first-other c b rest other = rw (ne_eqb b c other) refl
 
-pub without_first-kept : (c : ℕ) (text : List ℕ) → ((rest : List ℕ) → text ≢ c ∷ rest) → text ≡ without_first c text
-without_first-kept c [] other = refl
-without_first-kept c (b ∷ rest) other = sym (without_first-other c b rest (λ e. other rest (ap (λ k. k ∷ rest) e)))
+pub strip_first-kept : (c : ℕ) (text : List ℕ) → ((rest : List ℕ) → text ≢ c ∷ rest) → text ≡ strip_first c text
+strip_first-kept c [] other = refl
+strip_first-kept c (b ∷ rest) other = sym (strip_first-other c b rest (λ e. other rest (ap (λ k. k ∷ rest) e)))
 
-pub after_ending-return : (text rest : List ℕ) → text ≡ 13 ∷ rest → without_first 10 rest ≡ after_ending text
-after_ending-return text rest e = ap after_ending (sym e)
+pub skip_line_ending-return : (text rest : List ℕ) → text ≡ 13 ∷ rest → strip_first 10 rest ≡ skip_line_ending text
+skip_line_ending-return text rest e = ap skip_line_ending (sym e)
 
-pub after_ending-other : (text : List ℕ) → ((rest : List ℕ) → text ≢ 13 ∷ rest) → without_first 10 text ≡ after_ending text
-after_ending-other [] other = refl
-after_ending-other (b ∷ rest) other = rw (ne_eqb b 13 (λ e. other rest (ap (λ k. k ∷ rest) e))) refl
+pub skip_line_ending-other : (text : List ℕ) → ((rest : List ℕ) → text ≢ 13 ∷ rest) → strip_first 10 text ≡ skip_line_ending text
+skip_line_ending-other [] other = refl
+skip_line_ending-other (b ∷ rest) other = rw (ne_eqb b 13 (λ e. other rest (ap (λ k. k ∷ rest) e))) refl
 
 -- ---- endings of one character
 
-single_endings-first : (rest : List ℕ) → without_first 10 (single_endings rest) ≡ single_endings (without_first 10 rest)
+single_endings-first : (rest : List ℕ) → strip_first 10 (single_endings rest) ≡ single_endings (strip_first 10 rest)
 single_endings-first [] = refl
 single_endings-first (b ∷ rest) =
     elim (cases_Bool (eqb b 10)) [
@@ -39,7 +39,7 @@ single_endings-first (b ∷ rest) =
       | inr other ↦ rw other refl
     ]
 
-single_endings-ending : (b : ℕ) (rest : List ℕ) → is_ending b ≡ true → single_endings (b ∷ rest) ≡ b ∷ single_endings (after_ending (b ∷ rest))
+single_endings-ending : (b : ℕ) (rest : List ℕ) → is_ending b ≡ true → single_endings (b ∷ rest) ≡ b ∷ single_endings (skip_line_ending (b ∷ rest))
 single_endings-ending b rest ends =
     elim (or_cases (eqb b 13) (eqb b 10) ends) [
       | inl return ↦ rw return (ap (λ t. b ∷ t) (single_endings-first rest))
@@ -69,10 +69,10 @@ pub lines-nil : lines [] ≡ []
 unfolding lines
 lines-nil = refl
 
-pub lines-ended : (line : List ℕ) (b : ℕ) (rest : List ℕ) → All IsPlain line → is_ending b ≡ true → lines (line ++ b ∷ rest) ≡ line ∷ lines (after_ending (b ∷ rest))
+pub lines-ended : (line : List ℕ) (b : ℕ) (rest : List ℕ) → All IsPlain line → is_ending b ≡ true → lines (line ++ b ∷ rest) ≡ line ∷ lines (skip_line_ending (b ∷ rest))
 unfolding lines
 lines-ended line b rest plain ends =
-    let after = single_endings (after_ending (b ∷ rest)) in
+    let after = single_endings (skip_line_ending (b ∷ rest)) in
     ap (λ t. without_empty_last (slice_split is_ending t)) (single_endings-plain line (b ∷ rest) plain ∙ ap (λ t. line ++ t) (single_endings-ending b rest ends))
     ∙ ap without_empty_last (slice_split_at is_ending line b after plain ends)
     ∙ before_more line (slice_split is_ending after) (omega (arith, length-slice_split is_ending after))
@@ -105,12 +105,12 @@ pub lines-empty : (text : List ℕ) → length text ≡ 0 → lines text ≡ []
 lines-empty [] none = lines-nil
 lines-empty (b ∷ rest) none = absurd (omega arith)
 
-pub lines-cut : (text line ending : List ℕ) (end : ℕ) → IsFirstByte (is_byte2 13 10) text (Some end) → line ≡ take end text → ending ≡ drop end text → lines text ≡ line ∷ lines (after_ending ending)
+pub lines-cut : (text line ending : List ℕ) (end : ℕ) → IsFirstByte (is_byte2 13 10) text (Some end) → line ≡ take end text → ending ≡ drop end text → lines text ≡ line ∷ lines (skip_line_ending ending)
 lines-cut text line ending end first l e =
     let b = get_or text end 0 in
     let rest = drop (suc end) text in
     let split : drop end text ≡ b ∷ rest = drop-cons text end 0 first.0.high in
     ap lines (sym (take-append-drop end text) ∙ ap (λ t. take end text ++ t) split)
     ∙ lines-ended (take end text) b rest (before_ending text end first) first.1
-    ∙ ap (λ t. t ∷ lines (after_ending (b ∷ rest))) (sym l)
-    ∙ ap (λ t. line ∷ lines (after_ending t)) (sym split ∙ sym e)
+    ∙ ap (λ t. t ∷ lines (skip_line_ending (b ∷ rest))) (sym l)
+    ∙ ap (λ t. line ∷ lines (skip_line_ending t)) (sym split ∙ sym e)

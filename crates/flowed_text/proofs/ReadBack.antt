@@ -7,22 +7,22 @@ use Rattle.std.proofs.lemmas.Bool.{and_cases, and_from, and_left, and_parts, fal
 use Rattle.std.proofs.lemmas.List.{get_or-drop, get_or-take, length-drop, length-replicate}
 use Rattle.std.proofs.lemmas.List.Elements.{All-append, All-cons, All-nil, All-replicate}
 use Rattle.std.proofs.lemmas.Slice.Eq.{bytes_eq-Decides}
-use Rattle.flowed_text.specs.Lines.{lines, without_first}
-use Rattle.flowed_text.specs.Paragraphs.{ends_in_space, flows, marks, read_line, signature}
-use Rattle.flowed_text.specs.Flow.{ended_line, is_stuffed, whole_line}
+use Rattle.flowed_text.specs.Lines.{lines, strip_first}
+use Rattle.flowed_text.specs.Paragraphs.{ends_in_space, is_flowing, mark_count, read_line, signature}
+use Rattle.flowed_text.specs.Flow.{line_with_ending, is_stuffed, whole_line}
 use Rattle.flowed_text.proofs.Breaks.{EndsAt}
 use Rattle.flowed_text.proofs.LineCuts.{IsPlain, lines-ended}
 
 -- ---- marks and stuffing
 
-marks-replicate : (n : ℕ) (rest : List ℕ) → marks rest ≡ 0 → marks (replicate n 62 ++ rest) ≡ n
-marks-replicate zero rest none = none
-marks-replicate (suc n) rest none = let more = marks-replicate n rest none in omega arith
+mark_count-replicate : (n : ℕ) (rest : List ℕ) → mark_count rest ≡ 0 → mark_count (replicate n 62 ++ rest) ≡ n
+mark_count-replicate zero rest none = none
+mark_count-replicate (suc n) rest none = let more = mark_count-replicate n rest none in omega arith
 
 -- a text that is read as it stands
 record Bare (text : List ℕ) : Type 0 where
-  no_marks : marks text ≡ 0
-  kept : without_first 32 text ≡ text
+  no_marks : mark_count text ≡ 0
+  kept : strip_first 32 text ≡ text
 
 bare-from : (text : List ℕ) → (get_or text 0 0 == 62) ≡ false → (get_or text 0 0 == 32) ≡ false → Bare text
 bare-from [] no_mark no_space = record { no_marks = refl; kept = refl }
@@ -39,8 +39,8 @@ bare-of depth text stuffed =
 
 -- a text behind its stuffing
 record Stuffed (text : List ℕ) (space : Bool) : Type 0 where
-  no_marks : marks (cond space (32 ∷ []) [] ++ text) ≡ 0
-  read : without_first 32 (cond space (32 ∷ []) [] ++ text) ≡ text
+  no_marks : mark_count (cond space (32 ∷ []) [] ++ text) ≡ 0
+  read : strip_first 32 (cond space (32 ∷ []) [] ++ text) ≡ text
 
 stuffed-if : (text : List ℕ) (space : Bool) → (space ≡ false → Bare text) → Stuffed text space
 stuffed-if text true bare = record { no_marks = refl; read = refl }
@@ -52,13 +52,13 @@ read_line-written depth text small =
     let tail = cond space (32 ∷ []) [] ++ text in
     let stuffed = stuffed-if text space (bare-of depth text) in
     let apart : whole_line depth text ≡ replicate depth 62 ++ tail = append_assoc (replicate depth 62) (cond space (32 ∷ []) []) text in
-    let count : marks (replicate depth 62 ++ tail) ≡ depth = marks-replicate depth tail stuffed.no_marks in
+    let count : mark_count (replicate depth 62 ++ tail) ≡ depth = mark_count-replicate depth tail stuffed.no_marks in
     let least : min depth 4294967295 ≡ depth = omega arith in
     let rest : drop depth (replicate depth 62 ++ tail) ≡ tail = drop_at (replicate depth 62) tail depth (length-replicate depth 62) in
     ap read_line apart
-    ∙ ap (λ n. record { depth = min n 4294967295; text = without_first 32 (drop n (replicate depth 62 ++ tail)) }) count
-    ∙ ap (λ n. record { depth = n; text = without_first 32 (drop depth (replicate depth 62 ++ tail)) }) least
-    ∙ ap (λ t. record { depth = depth; text = t }) (ap (without_first 32) rest ∙ stuffed.read)
+    ∙ ap (λ n. record { depth = min n 4294967295; text = strip_first 32 (drop n (replicate depth 62 ++ tail)) }) count
+    ∙ ap (λ n. record { depth = n; text = strip_first 32 (drop depth (replicate depth 62 ++ tail)) }) least
+    ∙ ap (λ t. record { depth = depth; text = t }) (ap (strip_first 32) rest ∙ stuffed.read)
 
 -- ---- a written line is one line
 
@@ -72,15 +72,15 @@ plain-line depth text plain =
     All-append IsPlain (replicate depth 62 ++ stuffing) text
     (All-append IsPlain (replicate depth 62) stuffing (All-replicate IsPlain depth 62 refl) (plain-stuffing (is_stuffed depth text))) plain
 
-pub lines-written : (depth : ℕ) (text rest : List ℕ) → All IsPlain text → lines (ended_line depth text ++ rest) ≡ whole_line depth text ∷ lines rest
+pub lines-written : (depth : ℕ) (text rest : List ℕ) → All IsPlain text → lines (line_with_ending depth text ++ rest) ≡ whole_line depth text ∷ lines rest
 lines-written depth text rest plain =
     ap lines (append_assoc (whole_line depth text) (13 ∷ 10 ∷ []) rest) ∙ lines-ended (whole_line depth text) 13 (10 ∷ rest) (plain-line depth text plain) refl
 
 -- ---- which texts flow
 
 -- the text of a line that is not the last flows
-pub flows-at : (text : List ℕ) (end : ℕ) → EndsAt text end → flows (take end text) ≡ true
-flows-at text end ends =
+pub is_flowing-at : (text : List ℕ) (end : ℕ) → EndsAt text end → is_flowing (take end text) ≡ true
+is_flowing-at text end ends =
     let may = and_parts (get_or text (end - 1) 0 == 32) (not (bytes_eq (take end text) signature)) ends.may in
     let some = ends.some in
     let size : length (take end text) ≡ end = length-take-le end text ends.within in
@@ -102,8 +102,8 @@ signature_is : (text : List ℕ) → bytes_eq text signature ≡ true → text �
 signature_is text same = (bytes_eq-Decides text signature).0 same
 
 -- what follows a line flows no more than the whole does
-pub flows-rest : (text : List ℕ) (end : ℕ) → EndsAt text end → flows text ≡ false → flows (drop end text) ≡ false
-flows-rest text end ends stops =
+pub is_flowing-rest : (text : List ℕ) (end : ℕ) → EndsAt text end → is_flowing text ≡ false → is_flowing (drop end text) ≡ false
+is_flowing-rest text end ends stops =
     let may = and_parts (get_or text (end - 1) 0 == 32) (not (bytes_eq (take end text) signature)) ends.may in
     elim (and_cases (ends_in_space text) (not (bytes_eq text signature)) stops) [
       | inl fixed ↦

@@ -1,11 +1,11 @@
 -- Paragraphs as flowed text (RFC 3676, section 4.2). Texts are in UTF-8.
-use Rattle.std.specs.Prelude.{ℕ, zero, suc, ◌-◌, nat_lt, nat_le, Bool, false, not, ◌≡◌, ◌==◌, ◌&&◌, ◌||◌, if◌then◌else◌, List, [], ◌∷◌, ◌++◌, length, take, drop, replicate, count_by, slice_index, codes, Option, Some, None}
+use Rattle.std.specs.Prelude.{ℕ, zero, suc, ◌-◌, nat_lt, nat_le, Bool, false, not, ◌≡◌, ◌<◌, ◌+◌, ◌==◌, ◌&&◌, ◌||◌, if◌then◌else◌, List, [], ◌∷◌, ◌++◌, length, take, drop, replicate, count_by, slice_index, codes, Option, Some, None}
 use Rattle.std.specs.List.{All, flat_map, starts_with}
 use Rattle.std.specs.Option.{option_or}
 use Rattle.std.specs.Str.{bytes_eq}
 use Rattle.flowed_text.specs.declared.Para.{Para}
 use Rattle.flowed_text.specs.Lines.{is_ending}
-use Rattle.flowed_text.specs.Paragraphs.{flows, signature}
+use Rattle.flowed_text.specs.Paragraphs.{is_flowing, signature}
 
 -- ---- a line
 
@@ -40,22 +40,22 @@ least p zero = None
 least p (suc n) = option_or (least p n) (if p (suc n) then Some (suc n) else None)
 
 -- a line may end after so many bytes of a text: just after a space, and not as `-- `, which would not flow
-abbrev pub may_end : List ℕ → ℕ → Bool
-may_end text size = slice_index text (size - 1) == 32 && not (bytes_eq (take size text) signature)
+abbrev pub may_break : List ℕ → ℕ → Bool
+may_break text size = slice_index text (size - 1) == 32 && not (bytes_eq (take size text) signature)
 
 -- the whole line has at most 76 characters before that space
 abbrev pub is_short : ℕ → List ℕ → ℕ → Bool
 is_short depth text size = nat_le (width (prefix depth (take size text) ++ take (size - 1) text)) 76
 
 -- after how many bytes the first line of a text ends; None where the text is the last line
-unfoldable pub line_end : ℕ → List ℕ → Option ℕ
-line_end depth text = if nat_le (width (whole_line depth text)) 76 then None
-    else option_or (greatest (λ size. may_end text size && is_short depth text size) (length text)) (least (may_end text) (length text))
+unfoldable pub line_break : ℕ → List ℕ → Option ℕ
+line_break depth text = if nat_le (width (whole_line depth text)) 76 then None
+    else option_or (greatest (λ size. may_break text size && is_short depth text size) (length text)) (least (may_break text) (length text))
 
 -- the texts of a paragraph's lines, of which there are at most `more` after the first
 abbrev pub texts_within : ℕ → ℕ → List ℕ → List (List ℕ)
 texts_within zero depth text = text ∷ []
-texts_within (suc more) depth text = elim (line_end depth text) [
+texts_within (suc more) depth text = elim (line_break depth text) [
   | None ↦ text ∷ []
   | Some size ↦ take size text ∷ texts_within more depth (drop size text)
 ]
@@ -67,15 +67,22 @@ texts depth text = texts_within (length text) depth text
 -- ---- paragraphs
 
 -- a line with its ending
-abbrev pub ended_line : ℕ → List ℕ → List ℕ
-ended_line depth text = whole_line depth text ++ 13 ∷ 10 ∷ []
+abbrev pub line_with_ending : ℕ → List ℕ → List ℕ
+line_with_ending depth text = whole_line depth text ++ 13 ∷ 10 ∷ []
 
 abbrev pub flow_para : Para → List ℕ
-flow_para para = flat_map (ended_line para.depth) (texts para.depth para.text)
+flow_para para = flat_map (line_with_ending para.depth) (texts para.depth para.text)
 
 unfoldable pub flow : List Para → List ℕ
 flow paras = flat_map flow_para paras
 
 -- a paragraph that is read as it was written: it holds no CR and no LF, and ends in no space, unless it is `-- `
-abbrev pub IsWhole : Para → Type 0
-IsWhole para = All (λ b. is_ending b ≡ false) para.text × (flows para.text ≡ false)
+abbrev pub IsRestorable : Para → Type 0
+IsRestorable para = All (λ b. is_ending b ≡ false) para.text × (is_flowing para.text ≡ false)
+
+-- ---- how much room is left
+
+-- what some written bytes leave of a room, or None if they do not fit
+abbrev pub LeavesRoom : ℕ → ℕ → Option ℕ → Type 0
+LeavesRoom room size None = room < size
+LeavesRoom room size (Some left) = left + size ≡ room

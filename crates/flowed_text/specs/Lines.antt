@@ -6,14 +6,14 @@ abbrev pub is_ending : ℕ → Bool
 is_ending b = b == 13 || b == 10
 
 -- a text without this byte, if it stands first
-abbrev pub without_first : ℕ → List ℕ → List ℕ
-without_first c [] = []
-without_first c (b ∷ bs) = if b == c then bs else b ∷ bs
+abbrev pub strip_first : ℕ → List ℕ → List ℕ
+strip_first c [] = []
+strip_first c (b ∷ bs) = if b == c then bs else b ∷ bs
 
 -- a text whose line endings are one character each: the LF of a CR LF goes
 abbrev pub single_endings : List ℕ → List ℕ
 single_endings [] = []
-single_endings (b ∷ bs) = b ∷ (if b == 13 then without_first 10 (single_endings bs) else single_endings bs)
+single_endings (b ∷ bs) = b ∷ (if b == 13 then strip_first 10 (single_endings bs) else single_endings bs)
 
 abbrev pub without_empty_last : List (List ℕ) → List (List ℕ)
 without_empty_last [] = []
@@ -25,6 +25,6 @@ unfoldable pub lines : List ℕ → List (List ℕ)
 lines text = without_empty_last (slice_split is_ending (single_endings text))
 
 -- what follows the line ending that a text begins with
-abbrev pub after_ending : List ℕ → List ℕ
-after_ending [] = []
-after_ending (b ∷ bs) = if b == 13 then without_first 10 bs else without_first 10 (b ∷ bs)
+abbrev pub skip_line_ending : List ℕ → List ℕ
+skip_line_ending [] = []
+skip_line_ending (b ∷ bs) = if b == 13 then strip_first 10 bs else strip_first 10 (b ∷ bs)

@@ -1,11 +1,11 @@
 //! The lines of a text, one at a time.
 ghost use Rattle.std.specs.Prelude.{◌≡◌, ◌∷◌, [], ◌<◌, length, MatchOption, IfSome};
-ghost use Rattle.flowed_text.specs.Lines.{after_ending, lines, without_first};
+ghost use Rattle.flowed_text.specs.Lines.{skip_line_ending, lines, strip_first};
 
 use memchr::memchr2;
 
 /// The first line of a text, without its ending, and what follows that.
-pub fn first_line(text: &str) -> Option<(&str, &str)>
+pub fn split_line(text: &str) -> Option<(&str, &str)>
     ensures lines { MatchOption result (lines text.now ≡ []) (λ cut. lines text.now ≡ cut.0.now ∷ lines cut.1.now) }
     ensures shorter { IfSome result (λ cut. length cut.1.now < length text.now) }
 {
@@ -15,25 +15,25 @@ pub fn first_line(text: &str) -> Option<(&str, &str)>
     match memchr2(b'\r', b'\n', text.as_bytes()) {
         Some(end) => {
             let (line, ending) = text.split_at(end);
-            Some((line, after_ending(ending)))
+            Some((line, skip_line_ending(ending)))
         }
         None => Some((text, "")),
     }
 }
 
-fn after_ending(text: &str) -> &str
-    ensures { result.now ≡ after_ending text.now }
+fn skip_line_ending(text: &str) -> &str
+    ensures { result.now ≡ skip_line_ending text.now }
 {
     match text.strip_prefix('\r') {
-        Some(rest) => without_first(rest, '\n'),
-        None => without_first(text, '\n'),
+        Some(rest) => strip_first(rest, '\n'),
+        None => strip_first(text, '\n'),
     }
 }
 
 /// A text without an ASCII character, if it stands first.
-pub fn without_first(text: &str, character: char) -> &str
+pub fn strip_first(text: &str, character: char) -> &str
     requires { character < 128 }
-    ensures { result.now ≡ without_first character text.now }
+    ensures { result.now ≡ strip_first character text.now }
 {
     match text.strip_prefix(character) {
         Some(rest) => rest,

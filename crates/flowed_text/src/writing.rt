@@ -1,27 +1,72 @@
 //! Writes flowed text.
-ghost use Rattle.std.specs.Prelude.{◌≡◌, ◌++◌, ◌-◌, ◌^◌, ◌<◌, false, ◌≤◌, IfOk, OnOk, IfSome, length, slice_index, string_bytes};
+ghost use Rattle.std.specs.Prelude.{◌≡◌, ◌++◌, ◌-◌, ◌^◌, ◌<◌, false, ◌≤◌, IfOk, OnOk, IfSome, MatchOption, length, slice_index, string_bytes};
 ghost use Rattle.std.specs.List.{All};
 ghost use Rattle.flowed_text.specs.Paragraphs.{paras_of};
-ghost use Rattle.flowed_text.specs.Flow.{IsWhole, begins_character, ended_line, flow, flow_para, is_stuffed as is_stuffed_of, line_end as line_end_of, least, may_end as may_end_of};
+ghost use Rattle.flowed_text.specs.Flow.{IsRestorable, LeavesRoom, begins_character, line_with_ending, flow, flow_para, is_stuffed, line_break, least, may_break};
 
 use crate::{Memory, Para};
-use std::alloc::Global;
+use std::alloc::{AllocError, Global};
 
-// The most characters of a line, without the space at the end of one that flows.
+/// The maximum width of a line in characters, without the space at the end of one that flows.
 const WIDTH: usize = 76;
 
-/// Paragraphs as a text of `format=flowed` (RFC 3676 §4.2), without DelSp.
+/// The maximum length of a written text in bytes.
+const MAX_LEN: usize = 67_108_864;
+
+/// Writes paragraphs as a text of `format=flowed` (RFC 3676 §4.2), without DelSp.
 ///
-/// Reading gives them back where none holds CR or LF, and none but `-- ` ends in a space.
+/// A text that would be longer than 67,108,864 bytes is refused as out of memory before anything is allocated: marks
+/// before each line can make it far longer than its paragraphs. Reading the text returns the same paragraphs if none holds
+/// CR or LF, and none but `-- ` ends in a space.
 pub fn write_flowed(alloc: Global, paras: &[Para]) -> Result<String, Memory>
-    ensures text { IfOk result (λ text. string_bytes text ≡ flow paras.now) }
-    ensures reads { All IsWhole paras.now → IfOk result (λ text. paras_of (string_bytes text) false ≡ paras.now) }
+    ensures equals { IfOk result (λ text. string_bytes text ≡ flow paras.now) }
+    ensures parses { All IsRestorable paras.now → IfOk result (λ text. paras_of (string_bytes text) false ≡ paras.now) }
+    ensures bounded { IfOk result (λ text. length (string_bytes text) ≤ 67108864) }
 {
-    let mut text = String::new(alloc);
+    let Some(len) = flowed_len(paras) else {
+        return Err(AllocError);
+    };
+    let mut text = String::with_capacity(alloc, len)?;
     for para in paras {
         write_para(&mut text, para)?;
     }
     Ok(text)
+}
+
+/// The length of the written text in bytes, or `None` if it is more than `MAX_LEN`.
+fn flowed_len(paras: &[Para]) -> Option<usize>
+    ensures { MatchOption result (67108864 < length (flow paras.now)) (λ len. (len ≡ length (flow paras.now)) × (len ≤ 67108864)) }
+{
+    let mut left = MAX_LEN;
+    for para in paras {
+        left = room_after_para(left, para)?;
+    }
+    Some(MAX_LEN - left)
+}
+
+/// What a written paragraph leaves of `room` bytes, or `None` if it does not fit.
+fn room_after_para(room: usize, para: &Para) -> Option<usize>
+    ensures { LeavesRoom room (length (flow_para para.now)) result }
+{
+    let mut left = room;
+    let mut rest = para.text.as_str();
+    while let Some(end) = line_break(para.depth, rest) {
+        let (text, after) = rest.split_at(end);
+        left = room_after_line(left, para.depth, text)?;
+        rest = after;
+    }
+    room_after_line(left, para.depth, rest)
+}
+
+/// What a written line leaves of `room` bytes, or `None` if it does not fit.
+fn room_after_line(room: usize, depth: u32, text: &str) -> Option<usize>
+    ensures { LeavesRoom room (length (line_with_ending depth text.now)) result }
+{
+    let frame = depth as usize + usize::from(is_stuffed(depth, text)) + 2;
+    if room < frame || room - frame < text.len() {
+        return None;
+    }
+    Some(room - frame - text.len())
 }
 
 /// Adds the lines of a paragraph.
@@ -30,7 +75,7 @@ fn write_para(out: &mut String, para: &Para) -> Result<(), Memory>
     ensures text { OnOk result (string_bytes out.new ≡ string_bytes out.old ++ flow_para para.now) }
 {
     let mut rest = para.text.as_str();
-    while let Some(end) = line_end(para.depth, rest) {
+    while let Some(end) = line_break(para.depth, rest) {
         let (text, after) = rest.split_at(end);
         write_line(out, para.depth, text)?;
         rest = after;
@@ -40,7 +85,7 @@ fn write_para(out: &mut String, para: &Para) -> Result<(), Memory>
 
 /// Adds a line, with its ending.
 fn write_line(out: &mut String, depth: u32, text: &str) -> Result<(), Memory>
-    ensures { OnOk result (string_bytes out.new ≡ string_bytes out.old ++ ended_line depth text.now) }
+    ensures { OnOk result (string_bytes out.new ≡ string_bytes out.old ++ line_with_ending depth text.now) }
 {
     for _ in 0..depth {
         out.push('>')?;
@@ -54,14 +99,14 @@ fn write_line(out: &mut String, depth: u32, text: &str) -> Result<(), Memory>
 
 /// Whether a space stands before the text of a line.
 fn is_stuffed(depth: u32, text: &str) -> bool
-    ensures { result ≡ is_stuffed_of depth text.now }
+    ensures { result ≡ is_stuffed depth text.now }
 {
     depth > 0 || text.starts_with(' ') || text.starts_with('>') || text.starts_with("From ")
 }
 
 /// After how many bytes the first line of a text ends; none where the text is the last line.
-fn line_end(depth: u32, text: &str) -> Option<usize>
-    ensures value { result ≡ line_end_of depth text.now }
+fn line_break(depth: u32, text: &str) -> Option<usize>
+    ensures equals { result ≡ line_break depth text.now }
     ensures within { IfSome result (λ end. end ≤ length text.now) }
     ensures space { IfSome result (λ end. (0 < end) × (slice_index text.now (end - 1) ≡ 32)) }
 {
@@ -75,11 +120,11 @@ fn line_end(depth: u32, text: &str) -> Option<usize>
         }
         width += usize::from(begins_character(bytes[size]));
         size += 1;
-        if may_end(bytes, size) {
+        if may_break(bytes, size) {
             last = Some(size);
         }
     }
-    last.or(first_end(bytes))
+    last.or(first_break(bytes))
 }
 
 fn begins_character(byte: u8) -> bool
@@ -89,11 +134,11 @@ fn begins_character(byte: u8) -> bool
 }
 
 /// After how many bytes a line of a text may end at the earliest.
-fn first_end(bytes: &[u8]) -> Option<usize>
-    ensures { result ≡ least (may_end_of bytes.now) (length bytes.now) }
+fn first_break(bytes: &[u8]) -> Option<usize>
+    ensures { result ≡ least (may_break bytes.now) (length bytes.now) }
 {
     for i in 0..bytes.len() {
-        if may_end(bytes, i + 1) {
+        if may_break(bytes, i + 1) {
             return Some(i + 1);
         }
     }
@@ -101,10 +146,10 @@ fn first_end(bytes: &[u8]) -> Option<usize>
 }
 
 /// A line of a text may end after so many bytes.
-fn may_end(bytes: &[u8], size: usize) -> bool
+fn may_break(bytes: &[u8], size: usize) -> bool
     requires some { 0 < size }
     requires within { size ≤ length bytes.now }
-    ensures { result ≡ may_end_of bytes.now size }
+    ensures { result ≡ may_break bytes.now size }
 {
     bytes[size - 1] == b' ' && &bytes[..size] != b"-- ".as_slice()
 }

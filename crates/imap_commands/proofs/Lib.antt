@@ -1,5 +1,5 @@
 pub mod PieceLemmas
-pub mod FilledLemmas
+pub mod NonemptyLemmas
 pub mod UidSetLemmas
 pub mod ItemLemmas
 pub mod ReadingLemmas

@@ -2,10 +2,10 @@
 use Rattle.std.proofs.Common.{◌≡◌, ℕ, List, [], ◌∷◌, ◌++◌, inl, inr, length, map, refl, sym, ap, ◌∙◌, append_assoc}
 use Rattle.std.proofs.lemmas.Bool.{cases_Bool}
 use Rattle.std.proofs.lemmas.List.{map-append}
-use Rattle.imap_commands.specs.Pieces.{Part, pieces_of, onto_first, is_quotable, quoted, announced, line_end}
+use Rattle.imap_commands.specs.Pieces.{Part, pieces_of, onto_first, is_quotable, quoted, literal_size, line_end}
 use Rattle.imap_commands.specs.Pieces.Part.{Words, Text, Literal}
 use Rattle.imap_commands.specs.declared.pieces.Pieces.{Pieces}
-use Rattle.imap_commands.specs.Written.{Goes, GoesBy}
+use Rattle.imap_commands.specs.Written.{AppendsPart, AppendsParts}
 
 onto_twice : (a b : List ℕ) (pieces : List (List ℕ)) → onto_first a (onto_first b pieces) ≡ onto_first (a ++ b) pieces
 onto_twice a b [] = refl
@@ -23,7 +23,7 @@ pub words_go : (whole : List (List ℕ)) (last words after : List ℕ) (more : L
 unfolding pieces_of
 words_go whole last words after more is = ap (λ (x : List ℕ). whole ++ onto_first x (pieces_of more)) is ∙ ap (λ x. whole ++ x) (sym (onto_twice last words (pieces_of more)))
 
-pub literal_goes : (whole : List (List ℕ)) (last text announced_last : List ℕ) (more : List Part) → announced_last ≡ last ++ announced (length text) → (whole ++ announced_last ∷ []) ++ onto_first text (pieces_of more) ≡ whole ++ onto_first last (pieces_of (Literal text ∷ more))
+pub literal_goes : (whole : List (List ℕ)) (last text announced_last : List ℕ) (more : List Part) → announced_last ≡ last ++ literal_size (length text) → (whole ++ announced_last ∷ []) ++ onto_first text (pieces_of more) ≡ whole ++ onto_first last (pieces_of (Literal text ∷ more))
 unfolding pieces_of
 literal_goes whole last text announced_last more is =
     append_assoc whole (announced_last ∷ []) (onto_first text (pieces_of more)) ∙ ap (λ (x : List ℕ). whole ++ (x ∷ onto_first text (pieces_of more))) is
@@ -37,5 +37,5 @@ pub map_push : {X : Type 0} (f : X → List ℕ) (old new : List X) (x : X) → 
 map_push f old new x is = ap (map f) is ∙ map-append f old (x ∷ [])
 
 -- parts one after the other
-pub goes_three : (a b c d : Pieces) (p1 p2 p3 : Part) → Goes a b p1 → Goes b c p2 → Goes c d p3 → GoesBy a d (p1 ∷ p2 ∷ p3 ∷ [])
+pub goes_three : (a b c d : Pieces) (p1 p2 p3 : Part) → AppendsPart a b p1 → AppendsPart b c p2 → AppendsPart c d p3 → AppendsParts a d (p1 ∷ p2 ∷ p3 ∷ [])
 goes_three a b c d p1 p2 p3 g1 g2 g3 = λ more. g3 more ∙ g2 (p3 ∷ more) ∙ g1 (p2 ∷ p3 ∷ more)

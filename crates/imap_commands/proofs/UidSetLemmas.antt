@@ -5,7 +5,7 @@ use Rattle.std.proofs.lemmas.Bool.{cases_Bool}
 use Rattle.std.proofs.lemmas.List.Folds.{list_any-append}
 use Rattle.std.specs.List.Sorted.{IsNonDecreasingBy, IsPartitionPoint}
 use Rattle.imap_commands.specs.declared.uid_set.UidRange.{UidRange}
-use Rattle.imap_commands.specs.UidSets.{in_range, has, AscendFrom, AreApart, BeginBy, joined}
+use Rattle.imap_commands.specs.UidSets.{in_range, contains_uid, AscendFrom, AreApart, BeginBy, joined}
 
 -- the test of a range, with what it tells
 pub in_range_tells : (uid : ℕ) (range : UidRange) → ((in_range uid range ≡ true) × (range.first ≤ uid) × (uid ≤ range.last)) ⊎ ((in_range uid range ≡ false) × ((uid < range.first) ⊎ (range.last < uid)))
@@ -18,24 +18,24 @@ or-false : (b : Bool) → (b || false) ≡ b
 or-false true = refl
 or-false false = refl
 
-pub has-push : (uid : ℕ) (ranges : List UidRange) (range : UidRange) → has uid (ranges ++ range ∷ []) ≡ (has uid ranges || in_range uid range)
-has-push uid ranges range = list_any-append (in_range uid) ranges (range ∷ []) ∙ ap (λ b. has uid ranges || b) (or-false (in_range uid range))
+pub contains_uid-push : (uid : ℕ) (ranges : List UidRange) (range : UidRange) → contains_uid uid (ranges ++ range ∷ []) ≡ (contains_uid uid ranges || in_range uid range)
+contains_uid-push uid ranges range = list_any-append (in_range uid) ranges (range ∷ []) ∙ ap (λ b. contains_uid uid ranges || b) (or-false (in_range uid range))
 
 -- a range that has no UID
-pub has-none : (uid : ℕ) (ranges : List UidRange) (range : UidRange) → range.last < range.first → has uid ranges ≡ (has uid ranges || in_range uid range)
-has-none uid ranges range less =
+pub contains_uid-none : (uid : ℕ) (ranges : List UidRange) (range : UidRange) → range.last < range.first → contains_uid uid ranges ≡ (contains_uid uid ranges || in_range uid range)
+contains_uid-none uid ranges range less =
     let empty : in_range uid range ≡ false = grind (arith, in_range_tells uid range) in
-    sym (or-false (has uid ranges)) ∙ ap (λ b. has uid ranges || b) (sym empty)
+    sym (or-false (contains_uid uid ranges)) ∙ ap (λ b. contains_uid uid ranges || b) (sym empty)
 
 -- no UID below the first
-pub none_below : (uid least : ℕ) (ranges : List UidRange) → AscendFrom least ranges → uid < least → has uid ranges ≡ false
+pub none_below : (uid least : ℕ) (ranges : List UidRange) → AscendFrom least ranges → uid < least → contains_uid uid ranges ≡ false
 none_below uid least [] ascend below = refl
 none_below uid least (range ∷ more) ascend below =
     let here : in_range uid range ≡ false = let a = ascend.0 in grind (arith, in_range_tells uid range) in
     rw here (none_below uid (range.last + 2) more ascend.2 (let a = ascend.0 in let b = ascend.1 in omega arith))
 
 -- no UID above the last
-pub none_after : (uid : ℕ) (ranges : List UidRange) → ((k : ℕ) (d : UidRange) → k < length ranges → (get_or ranges k d).last < uid) → has uid ranges ≡ false
+pub none_after : (uid : ℕ) (ranges : List UidRange) → ((k : ℕ) (d : UidRange) → k < length ranges → (get_or ranges k d).last < uid) → contains_uid uid ranges ≡ false
 none_after uid [] before = refl
 none_after uid (range ∷ more) before =
     let over : range.last < uid = before 0 range (omega arith) in
@@ -43,7 +43,7 @@ none_after uid (range ∷ more) before =
     rw here (none_after uid more (λ k d l. before (suc k) d (omega arith)))
 
 -- the first range that doesn't end before a UID decides
-pub decided_at : (uid least i : ℕ) (ranges : List UidRange) (d : UidRange) → AscendFrom least ranges → i < length ranges → ((k : ℕ) → k < i → (get_or ranges k d).last < uid) → uid ≤ (get_or ranges i d).last → has uid ranges ≡ nat_le (get_or ranges i d).first uid
+pub decided_at : (uid least i : ℕ) (ranges : List UidRange) (d : UidRange) → AscendFrom least ranges → i < length ranges → ((k : ℕ) → k < i → (get_or ranges k d).last < uid) → uid ≤ (get_or ranges i d).last → contains_uid uid ranges ≡ nat_le (get_or ranges i d).first uid
 decided_at uid least i [] d ascend within before at = absurd (not-suc-le-zero within)
 decided_at uid least zero (range ∷ more) d ascend within before at =
     rw (none_below uid (range.last + 2) more ascend.2 (omega arith)) (or-false _ ∙ grind (arith, nat_tests))
@@ -95,19 +95,19 @@ begin_by latest [] before after begin order =
     elim (cases_Bool (nat_le after.first (before.last + 1))) [ inl near ↦ rw near (begin.0, tt) | inr far ↦ rw far (begin.0, (order, tt)) ]
 begin_by latest (range ∷ more) before after begin order = (begin.0, begin_by latest more before after begin.1 order)
 
-has-joined : (uid : ℕ) (before after : UidRange) → before.first ≤ before.last → before.first ≤ after.first → after.first ≤ after.last → has uid (joined before after) ≡ (in_range uid before || in_range uid after)
-has-joined uid before after one order other = grind (arith, nat_tests)
+contains_uid-joined : (uid : ℕ) (before after : UidRange) → before.first ≤ before.last → before.first ≤ after.first → after.first ≤ after.last → contains_uid uid (joined before after) ≡ (in_range uid before || in_range uid after)
+contains_uid-joined uid before after one order other = grind (arith, nat_tests)
 
 or_assoc : (a b c : Bool) → (a || (b || c)) ≡ ((a || b) || c)
 or_assoc true b c = refl
 or_assoc false b c = refl
 
-members : (uid : ℕ) (front : List UidRange) (before after : UidRange) → before.first ≤ before.last → before.first ≤ after.first → after.first ≤ after.last → has uid (front ++ joined before after) ≡ (has uid (front ++ before ∷ []) || in_range uid after)
+members : (uid : ℕ) (front : List UidRange) (before after : UidRange) → before.first ≤ before.last → before.first ≤ after.first → after.first ≤ after.last → contains_uid uid (front ++ joined before after) ≡ (contains_uid uid (front ++ before ∷ []) || in_range uid after)
 members uid front before after one order other =
     list_any-append (in_range uid) front (joined before after)
-    ∙ ap (λ b. has uid front || b) (has-joined uid before after one order other)
-    ∙ or_assoc (has uid front) (in_range uid before) (in_range uid after)
-    ∙ ap (λ b. b || in_range uid after) (sym (has-push uid front before))
+    ∙ ap (λ b. contains_uid uid front || b) (contains_uid-joined uid before after one order other)
+    ∙ or_assoc (contains_uid uid front) (in_range uid before) (in_range uid after)
+    ∙ ap (λ b. b || in_range uid after) (sym (contains_uid-push uid front before))
 
 -- the last range and one that begins no earlier are joined
 pub joined_apart : (old front new : List UidRange) (before after : UidRange) → old ≡ front ++ before ∷ [] → AreApart old → BeginBy after.first old → after.first ≤ after.last → new ≡ front ++ joined before after → AreApart new
@@ -118,11 +118,11 @@ pub joined_begin : (old front new : List UidRange) (before after : UidRange) →
 joined_begin old front new before after was begin is =
     subst (BeginBy after.first) (sym is) (begin_by after.first front before after (subst (BeginBy after.first) was begin) (le_refl _))
 
-pub joined_has : (uid : ℕ) (old front new : List UidRange) (before after : UidRange) → old ≡ front ++ before ∷ [] → AreApart old → BeginBy after.first old → after.first ≤ after.last → new ≡ front ++ joined before after → has uid new ≡ (has uid old || in_range uid after)
+pub joined_has : (uid : ℕ) (old front new : List UidRange) (before after : UidRange) → old ≡ front ++ before ∷ [] → AreApart old → BeginBy after.first old → after.first ≤ after.last → new ≡ front ++ joined before after → contains_uid uid new ≡ (contains_uid uid old || in_range uid after)
 joined_has uid old front new before after was ascend begin holds is =
-    ap (has uid) is
+    ap (contains_uid uid) is
     ∙ members uid front before after (last_holds 0 front before (subst AreApart was ascend)) (last_begins after.first front before (subst (BeginBy after.first) was begin)) holds
-    ∙ ap (λ ranges. has uid ranges || in_range uid after) (sym was)
+    ∙ ap (λ ranges. contains_uid uid ranges || in_range uid after) (sym was)
 
 pub begin_later : (one other : ℕ) (ranges : List UidRange) → one ≤ other → BeginBy one ranges → BeginBy other ranges
 begin_later one other [] le begin = tt
@@ -133,12 +133,12 @@ abbrev Parts : ℕ → ℕ → List UidRange → Type 0
 Parts uid place ranges =
     IsPartitionPoint (λ (range : UidRange). nat_lt range.last uid ≡ true) (λ (range : UidRange). nat_lt range.last uid ≡ false) ranges place
 
-pub found_at : (uid place : ℕ) (ranges : List UidRange) (range : UidRange) → AreApart ranges → Parts uid place ranges → place < length ranges → range ≡ get_or ranges place range → nat_le range.first uid ≡ has uid ranges
+pub found_at : (uid place : ℕ) (ranges : List UidRange) (range : UidRange) → AreApart ranges → Parts uid place ranges → place < length ranges → range ≡ get_or ranges place range → nat_le range.first uid ≡ contains_uid uid ranges
 found_at uid place ranges range ascend parts within is =
     let at : uid ≤ (get_or ranges place range).last = let t = parts.1 place range (le_refl _) within in grind (arith, nat_tests) in
     ap (λ (r : UidRange). nat_le r.first uid) is
     ∙ sym (decided_at uid 0 place ranges range ascend within (λ k less. let t = parts.0 k range (omega arith) less in grind (arith, nat_tests)) at)
 
-pub found_nowhere : (uid place : ℕ) (ranges : List UidRange) → Parts uid place ranges → length ranges ≤ place → false ≡ has uid ranges
+pub found_nowhere : (uid place : ℕ) (ranges : List UidRange) → Parts uid place ranges → length ranges ≤ place → false ≡ contains_uid uid ranges
 found_nowhere uid place ranges parts over =
     sym (none_after uid ranges (λ k d within. let t = parts.0 k d (omega arith) (omega arith) in grind (arith, nat_tests)))

@@ -35,23 +35,23 @@ sign true = codes " +FLAGS ("
 sign false = codes " -FLAGS ("
 
 -- the parts of a command after its tag and a space
-unfoldable pub parts : Command → List Part
-parts (Login user password) = Words (codes "LOGIN ") ∷ Text user ∷ Words (codes " ") ∷ Text password ∷ []
-parts Capability = Words (codes "CAPABILITY") ∷ []
-parts Enable = Words (codes "ENABLE IMAP4rev2 QRESYNC") ∷ []
-parts ListAll = Words (codes "LIST \"\" \"*\"") ∷ []
-parts (Select folder known) = Words (codes "SELECT ") ∷ Text folder ∷ known_parts known
-parts Noop = Words (codes "NOOP") ∷ []
-parts (FetchNew from) =
+unfoldable pub command_parts : Command → List Part
+command_parts (Login user password) = Words (codes "LOGIN ") ∷ Text user ∷ Words (codes " ") ∷ Text password ∷ []
+command_parts Capability = Words (codes "CAPABILITY") ∷ []
+command_parts Enable = Words (codes "ENABLE IMAP4rev2 QRESYNC") ∷ []
+command_parts ListAll = Words (codes "LIST \"\" \"*\"") ∷ []
+command_parts (Select folder known) = Words (codes "SELECT ") ∷ Text folder ∷ known_parts known
+command_parts Noop = Words (codes "NOOP") ∷ []
+command_parts (FetchNew from) =
     Words (codes "UID FETCH ") ∷ Words (decimal from)
     ∷ Words (codes ":* (UID FLAGS MODSEQ INTERNALDATE RFC822.SIZE BODY.PEEK[HEADER.FIELDS (DATE FROM TO CC SUBJECT MESSAGE-ID IN-REPLY-TO REFERENCES)])") ∷ []
-parts (FetchChanged mark) = Words (codes "UID FETCH 1:* (UID FLAGS MODSEQ) (CHANGEDSINCE ") ∷ Words (decimal mark) ∷ Words (codes " VANISHED)") ∷ []
-parts (FetchBody uid) = Words (codes "UID FETCH ") ∷ Words (decimal uid) ∷ Words (codes " (UID BODY.PEEK[])") ∷ []
-parts (Search words) = Words (codes "UID SEARCH RETURN (ALL) TEXT ") ∷ Text words ∷ []
-parts (Store uid label on) = Words (codes "UID STORE ") ∷ Words (decimal uid) ∷ Words (sign on) ∷ Words (label_word label) ∷ Words (codes ")") ∷ []
-parts (Move uid to) = Words (codes "UID MOVE ") ∷ Words (decimal uid) ∷ Words (codes " ") ∷ Text to ∷ []
-parts (Expunge uid) = Words (codes "UID EXPUNGE ") ∷ Words (decimal uid) ∷ []
-parts (Append folder label message) =
+command_parts (FetchChanged mark) = Words (codes "UID FETCH 1:* (UID FLAGS MODSEQ) (CHANGEDSINCE ") ∷ Words (decimal mark) ∷ Words (codes " VANISHED)") ∷ []
+command_parts (FetchBody uid) = Words (codes "UID FETCH ") ∷ Words (decimal uid) ∷ Words (codes " (UID BODY.PEEK[])") ∷ []
+command_parts (Search words) = Words (codes "UID SEARCH RETURN (ALL) TEXT ") ∷ Text words ∷ []
+command_parts (Store uid label on) = Words (codes "UID STORE ") ∷ Words (decimal uid) ∷ Words (sign on) ∷ Words (label_word label) ∷ Words (codes ")") ∷ []
+command_parts (Move uid to) = Words (codes "UID MOVE ") ∷ Words (decimal uid) ∷ Words (codes " ") ∷ Text to ∷ []
+command_parts (Expunge uid) = Words (codes "UID EXPUNGE ") ∷ Words (decimal uid) ∷ []
+command_parts (Append folder label message) =
     Words (codes "APPEND ") ∷ Text folder ∷ Words (codes " (") ∷ Words (label_words label) ∷ Words (codes ") ") ∷ Literal message ∷ []
 
 -- `A`, the number of the command, and a space
@@ -59,5 +59,5 @@ abbrev pub tag_parts : ℕ → List Part
 tag_parts tag = Words (codes "A") ∷ Words (decimal tag) ∷ Words (codes " ") ∷ []
 
 -- the pieces of a command
-unfoldable pub said : ℕ → Command → List (List ℕ)
-said tag command = pieces_of (tag_parts tag ++ parts command)
+unfoldable pub command_pieces : ℕ → Command → List (List ℕ)
+command_pieces tag command = pieces_of (tag_parts tag ++ command_parts command)

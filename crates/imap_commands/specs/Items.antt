@@ -1,5 +1,6 @@
 -- The bytes of a command as bytes and strings (RFC 9051, section 4.3 and section 9: `command`, `quoted`, `literal`).
-use Rattle.std.specs.Prelude.{ℕ, zero, suc, ◌+◌, ◌-◌, ◌*◌, ◌==◌, ◌&&◌, ◌||◌, Bool, nat_le, if◌then◌else◌, Option, Some, None, List, [], ◌∷◌, ◌++◌}
+use Rattle.std.specs.Prelude.{ℕ, zero, suc, ◌+◌, ◌-◌, ◌*◌, ◌==◌, ◌||◌, if◌then◌else◌, Option, Some, None, List, [], ◌∷◌, ◌++◌}
+use Rattle.imap_commands.specs.Bytes.{line_feed, carriage_return, quotation_mark, backslash, left_brace, right_brace, is_digit}
 use Rattle.imap_commands.specs.Pieces.{line_end}
 
 -- a byte between strings, or a string, quoted or a literal
@@ -7,68 +8,65 @@ pub data Item : Type 0 where
   Byte : ℕ → Item
   Str : List ℕ → Item
 
--- where a reader of the bytes stands
-pub data Place : Type 0 where
+-- the state of a lexer
+pub data LexState : Type 0 where
   -- between strings, after these items
-  Between : List Item → Place
+  Between : List Item → LexState
   -- in a quoted string, after these bytes of it, and after a `\` there
-  Quoted : List Item → List ℕ → Place
-  Escaped : List Item → List ℕ → Place
+  Quoted : List Item → List ℕ → LexState
+  Escaped : List Item → List ℕ → LexState
   -- after the `{` of a literal, and in its size
-  Brace : List Item → Place
-  Size : List Item → ℕ → Place
-  -- in a literal, with so many bytes to come after these
-  Octets : List Item → ℕ → List ℕ → Place
+  Brace : List Item → LexState
+  Size : List Item → ℕ → LexState
+  -- in a literal: the bytes to come, and those so far
+  Octets : List Item → ℕ → List ℕ → LexState
   -- these bytes have to come before that place
-  Expect : List ℕ → Place → Place
+  Expect : List ℕ → LexState → LexState
   -- after the end of a command
-  Whole : List Item → Place
-  Wrong : Place
+  Whole : List Item → LexState
+  Wrong : LexState
 
-abbrev pub is_digit : ℕ → Bool
-is_digit c = nat_le 48 c && nat_le c 57
+abbrev pub literal_state : List Item → ℕ → List ℕ → LexState
+literal_state items zero text = Between (items ++ Str text ∷ [])
+literal_state items (suc left) text = Octets items (suc left) text
 
-abbrev pub octets : List Item → ℕ → List ℕ → Place
-octets items zero text = Between (items ++ Str text ∷ [])
-octets items (suc left) text = Octets items (suc left) text
+abbrev pub expect_state : List ℕ → LexState → LexState
+expect_state [] next = next
+expect_state (byte ∷ more) next = Expect (byte ∷ more) next
 
-abbrev pub expected : List ℕ → Place → Place
-expected [] next = next
-expected (byte ∷ more) next = Expect (byte ∷ more) next
-
--- one byte more: 34 is `"`, 92 `\`, 123 and 125 `{` and `}`, and 13 and 10 end a line
-unfoldable pub step : Place → ℕ → Place
-step (Between items) c =
-    if c == 34 then Quoted items []
-    else if c == 123 then Brace items
-    else if c == 13 then Expect (10 ∷ []) (Whole items)
+-- the state after one more byte
+unfoldable pub lex_step : LexState → ℕ → LexState
+lex_step (Between items) c =
+    if c == quotation_mark then Quoted items []
+    else if c == left_brace then Brace items
+    else if c == carriage_return then Expect (line_feed ∷ []) (Whole items)
     else Between (items ++ Byte c ∷ [])
-step (Quoted items text) c =
-    if c == 34 then Between (items ++ Str text ∷ [])
-    else if c == 92 then Escaped items text
-    else if c == 13 || c == 10 then Wrong
+lex_step (Quoted items text) c =
+    if c == quotation_mark then Between (items ++ Str text ∷ [])
+    else if c == backslash then Escaped items text
+    else if c == carriage_return || c == line_feed then Wrong
     else Quoted items (text ++ c ∷ [])
-step (Escaped items text) c = if c == 34 || c == 92 then Quoted items (text ++ c ∷ []) else Wrong
-step (Brace items) c = if is_digit c then Size items (c - 48) else Wrong
-step (Size items size) c =
+lex_step (Escaped items text) c = if c == quotation_mark || c == backslash then Quoted items (text ++ c ∷ []) else Wrong
+lex_step (Brace items) c = if is_digit c then Size items (c - 48) else Wrong
+lex_step (Size items size) c =
     if is_digit c then Size items (10 * size + (c - 48))
-    else if c == 125 then Expect line_end (octets items size [])
+    else if c == right_brace then Expect line_end (literal_state items size [])
     else Wrong
-step (Octets items zero text) c = Wrong
-step (Octets items (suc left) text) c = octets items left (text ++ c ∷ [])
-step (Expect [] next) c = Wrong
-step (Expect (byte ∷ more) next) c = if c == byte then expected more next else Wrong
-step (Whole items) c = Wrong
-step Wrong c = Wrong
+lex_step (Octets items zero text) c = Wrong
+lex_step (Octets items (suc left) text) c = literal_state items left (text ++ c ∷ [])
+lex_step (Expect [] next) c = Wrong
+lex_step (Expect (byte ∷ more) next) c = if c == byte then expect_state more next else Wrong
+lex_step (Whole items) c = Wrong
+lex_step Wrong c = Wrong
 
-unfoldable pub place_from : Place → List ℕ → Place
-place_from place [] = place
-place_from place (c ∷ bytes) = place_from (step place c) bytes
+unfoldable pub lex_from : LexState → List ℕ → LexState
+lex_from place [] = place
+lex_from place (c ∷ bytes) = lex_from (lex_step place c) bytes
 
 -- the items of bytes that are one whole command: it ends with the first line end outside its strings, and nothing follows
-abbrev pub items_at : Place → Option (List Item)
-items_at (Whole items) = Some items
-items_at _ = None
+abbrev pub items_if_whole : LexState → Option (List Item)
+items_if_whole (Whole items) = Some items
+items_if_whole _ = None
 
 unfoldable pub items_of : List ℕ → Option (List Item)
-items_of bytes = items_at (place_from (Between []) bytes)
+items_of bytes = items_if_whole (lex_from (Between []) bytes)

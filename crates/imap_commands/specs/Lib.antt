@@ -1,7 +1,8 @@
+pub mod Bytes
 pub mod Pieces
 pub mod Commands
 pub mod Written
 pub mod UidSets
 pub mod Items
-pub mod Reading
+pub mod CommandGrammar
 pub mod ReadBack

@@ -1,6 +1,7 @@
 -- How a command is said in pieces (RFC 9051, section 4.3).
 use Rattle.std.specs.Prelude.{ℕ, Bool, ◌==◌, ◌&&◌, ◌||◌, nat_le, if◌then◌else◌, List, [], ◌∷◌, ◌++◌, length, codes, decimal}
 use Rattle.std.specs.List.{list_all, flat_map}
+use Rattle.imap_commands.specs.Bytes.{line_feed, carriage_return, space, quotation_mark, backslash, tilde}
 
 -- a part of a command: words as they stand, a string, or a literal
 pub data Part : Type 0 where
@@ -10,7 +11,7 @@ pub data Part : Type 0 where
 
 -- bytes that stand in a quoted string: printable ASCII and the space
 abbrev pub is_plain : ℕ → Bool
-is_plain b = nat_le 32 b && nat_le b 126
+is_plain b = nat_le space b && nat_le b tilde
 
 -- a string is quoted where all its bytes are such, and at most 1,000; else it is a literal
 abbrev pub is_quotable : List ℕ → Bool
@@ -18,17 +19,17 @@ is_quotable text = nat_le (length text) 1000 && list_all is_plain text
 
 -- `\` stands before each `"` and each `\`
 abbrev pub quoted_byte : ℕ → List ℕ
-quoted_byte b = if b == 34 || b == 92 then 92 ∷ b ∷ [] else b ∷ []
+quoted_byte b = if b == quotation_mark || b == backslash then backslash ∷ b ∷ [] else b ∷ []
 
 abbrev pub quoted : List ℕ → List ℕ
-quoted text = 34 ∷ flat_map quoted_byte text ++ 34 ∷ []
+quoted text = quotation_mark ∷ flat_map quoted_byte text ++ quotation_mark ∷ []
 
 abbrev pub line_end : List ℕ
-line_end = 13 ∷ 10 ∷ []
+line_end = carriage_return ∷ line_feed ∷ []
 
 -- how many bytes a literal has: the end of the piece before it
-abbrev pub announced : ℕ → List ℕ
-announced size = codes "{" ++ decimal size ++ codes "}" ++ line_end
+abbrev pub literal_size : ℕ → List ℕ
+literal_size size = codes "{" ++ decimal size ++ codes "}" ++ line_end
 
 -- bytes before the first of some pieces
 abbrev pub onto_first : List ℕ → List (List ℕ) → List (List ℕ)
@@ -37,7 +38,7 @@ onto_first bytes (first ∷ more) = (bytes ++ first) ∷ more
 
 -- a literal begins a piece of its own: it is said when the server has asked for it
 abbrev pub literal_before : List ℕ → List (List ℕ) → List (List ℕ)
-literal_before text pieces = announced (length text) ∷ onto_first text pieces
+literal_before text pieces = literal_size (length text) ∷ onto_first text pieces
 
 abbrev pub text_before : List ℕ → List (List ℕ) → List (List ℕ)
 text_before text pieces = if is_quotable text then onto_first (quoted text) pieces else literal_before text pieces

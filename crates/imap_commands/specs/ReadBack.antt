@@ -4,54 +4,54 @@ use Rattle.std.specs.List.{concat, AllByRecursion}
 use Rattle.imap_commands.specs.declared.command.Command.{Command}
 use Rattle.imap_commands.specs.declared.command.Command.TheVariants.{Login, Capability, Enable, List as ListAll, Select, Noop, FetchNew, FetchChanged, FetchBody, Search, Store, Move, Expunge, Append}
 use Rattle.imap_commands.specs.declared.command.Known.{Known}
-use Rattle.imap_commands.specs.Commands.{said}
-use Rattle.imap_commands.specs.Reading.{command_of}
+use Rattle.imap_commands.specs.Commands.{command_pieces}
+use Rattle.imap_commands.specs.CommandGrammar.{command_of}
 
 -- what the text of a command says: where changes were told up to no mark, it has nothing of what is known
 abbrev pub without_mark : Known → Option Known
 without_mark known = if known.mark == 0 then None else Some known
 
-abbrev pub spoken_known : Option Known → Option Known
-spoken_known None = None
-spoken_known (Some known) = without_mark known
+abbrev pub written_known : Option Known → Option Known
+written_known None = None
+written_known (Some known) = without_mark known
 
-abbrev pub spoken : Command → Command
-spoken (Select folder known) = Select folder (spoken_known known)
-spoken one = one
+abbrev pub written_form : Command → Command
+written_form (Select folder known) = Select folder (written_known known)
+written_form one = one
 
 -- the numbers of a command are those of its fields' types, and its texts are no longer than memory
-abbrev pub IsKnownSayable : Option Known → Type 0
-IsKnownSayable None = Unit {0}
-IsKnownSayable (Some known) = (known.validity < 2 ^ 32) × (known.mark < 2 ^ 64)
+abbrev pub KnownFitsFieldTypes : Option Known → Type 0
+KnownFitsFieldTypes None = Unit {0}
+KnownFitsFieldTypes (Some known) = (known.validity < 2 ^ 32) × (known.mark < 2 ^ 64)
 
-abbrev pub IsSayable : Command → Type 0
-IsSayable (Login user password) = (length user < 2 ^ 64) × (length password < 2 ^ 64)
-IsSayable Capability = Unit {0}
-IsSayable Enable = Unit {0}
-IsSayable ListAll = Unit {0}
-IsSayable (Select folder known) = (length folder < 2 ^ 64) × IsKnownSayable known
-IsSayable Noop = Unit {0}
-IsSayable (FetchNew from) = from < 2 ^ 32
-IsSayable (FetchChanged mark) = mark < 2 ^ 64
-IsSayable (FetchBody uid) = uid < 2 ^ 32
-IsSayable (Search words) = length words < 2 ^ 64
-IsSayable (Store uid label on) = uid < 2 ^ 32
-IsSayable (Move uid to) = (uid < 2 ^ 32) × (length to < 2 ^ 64)
-IsSayable (Expunge uid) = uid < 2 ^ 32
-IsSayable (Append folder label message) = (length folder < 2 ^ 64) × (length message < 2 ^ 64)
+abbrev pub FitsFieldTypes : Command → Type 0
+FitsFieldTypes (Login user password) = (length user < 2 ^ 64) × (length password < 2 ^ 64)
+FitsFieldTypes Capability = Unit {0}
+FitsFieldTypes Enable = Unit {0}
+FitsFieldTypes ListAll = Unit {0}
+FitsFieldTypes (Select folder known) = (length folder < 2 ^ 64) × KnownFitsFieldTypes known
+FitsFieldTypes Noop = Unit {0}
+FitsFieldTypes (FetchNew from) = from < 2 ^ 32
+FitsFieldTypes (FetchChanged mark) = mark < 2 ^ 64
+FitsFieldTypes (FetchBody uid) = uid < 2 ^ 32
+FitsFieldTypes (Search words) = length words < 2 ^ 64
+FitsFieldTypes (Store uid label on) = uid < 2 ^ 32
+FitsFieldTypes (Move uid to) = (uid < 2 ^ 32) × (length to < 2 ^ 64)
+FitsFieldTypes (Expunge uid) = uid < 2 ^ 32
+FitsFieldTypes (Append folder label message) = (length folder < 2 ^ 64) × (length message < 2 ^ 64)
 
 -- the pieces of a command joined are that command, with its tag
 abbrev pub CommandsReadBack : Type 0
-CommandsReadBack = (tag : ℕ) (one : Command) → tag < 2 ^ 32 → IsSayable one → command_of (concat (said tag one)) ≡ Some (tag, spoken one)
+CommandsReadBack = (tag : ℕ) (one : Command) → tag < 2 ^ 32 → FitsFieldTypes one → command_of (concat (command_pieces tag one)) ≡ Some (tag, written_form one)
 
 -- no beginning of the bytes is a command
-abbrev pub IsNoneBefore : List ℕ → Type 0
-IsNoneBefore bytes = (front : List ℕ) (byte : ℕ) (back : List ℕ) → bytes ≡ front ++ byte ∷ back → command_of front ≡ None
+abbrev pub HasNoCommandPrefix : List ℕ → Type 0
+HasNoCommandPrefix bytes = (front : List ℕ) (byte : ℕ) (back : List ℕ) → bytes ≡ front ++ byte ∷ back → command_of front ≡ None
 
 -- no command is the beginning of another
-abbrev pub CommandsEndOnce : Type 0
-CommandsEndOnce = (bytes : List ℕ) → IsSome (command_of bytes) → IsNoneBefore bytes
+abbrev pub NoCommandIsPrefix : Type 0
+NoCommandIsPrefix = (bytes : List ℕ) → IsSome (command_of bytes) → HasNoCommandPrefix bytes
 
 -- a command is said in some pieces, and each has a byte: so what was said before its last piece is no command yet
-abbrev pub PiecesAreFilled : Type 0
-PiecesAreFilled = (tag : ℕ) (one : Command) → AllByRecursion (λ piece. 0 < length piece) (said tag one)
+abbrev pub PiecesAreNonempty : Type 0
+PiecesAreNonempty = (tag : ℕ) (one : Command) → AllByRecursion (λ piece. 0 < length piece) (command_pieces tag one)

@@ -8,8 +8,8 @@ abbrev pub in_range : ℕ → UidRange → Bool
 in_range uid range = nat_le range.first uid && nat_le uid range.last
 
 -- a UID of any of the ranges
-abbrev pub has : ℕ → List UidRange → Bool
-has uid ranges = list_any (in_range uid) ranges
+abbrev pub contains_uid : ℕ → List UidRange → Bool
+contains_uid uid ranges = list_any (in_range uid) ranges
 
 -- the ranges begin with that UID or later, each has one, and between two of them one at least is missing
 abbrev pub AscendFrom : ℕ → List UidRange → Type 0

@@ -5,17 +5,17 @@ use Rattle.imap_commands.specs.declared.pieces.Pieces.{Pieces}
 use Rattle.imap_commands.specs.Pieces.{Part, pieces_of, onto_first}
 
 -- the bytes of each piece
-abbrev pub lists : List (Vec ℕ) → List (List ℕ)
-lists pieces = map (λ piece. piece.items) pieces
+abbrev pub bytes_of_vecs : List (Vec ℕ) → List (List ℕ)
+bytes_of_vecs pieces = map (λ piece. piece.items) pieces
 
 -- the pieces so far, with more parts to come
-abbrev pub written : Pieces → List Part → List (List ℕ)
-written p more = lists p.whole.items ++ onto_first p.last.items (pieces_of more)
+abbrev pub pieces_with : Pieces → List Part → List (List ℕ)
+pieces_with p more = bytes_of_vecs p.whole.items ++ onto_first p.last.items (pieces_of more)
 
 -- a part was added
-abbrev pub Goes : Pieces → Pieces → Part → Type 0
-Goes before after part = (more : List Part) → written after more ≡ written before (part ∷ more)
+abbrev pub AppendsPart : Pieces → Pieces → Part → Type 0
+AppendsPart before after part = (more : List Part) → pieces_with after more ≡ pieces_with before (part ∷ more)
 
 -- these parts were added
-abbrev pub GoesBy : Pieces → Pieces → List Part → Type 0
-GoesBy before after parts = (more : List Part) → written after more ≡ written before (parts ++ more)
+abbrev pub AppendsParts : Pieces → Pieces → List Part → Type 0
+AppendsParts before after parts = (more : List Part) → pieces_with after more ≡ pieces_with before (parts ++ more)

@@ -3,7 +3,7 @@
 use mail_values::{Bytes, Text};
 
 /// A flag of a message that is set or cleared (RFC 9051 §2.3.2).
-#[derive(Clone, Copy, Debug, PartialEq, Eq)]
+#[derive(Clone, Copy)]
 pub enum Label {
     Seen,
     Flagged,
@@ -13,7 +13,7 @@ pub enum Label {
 }
 
 /// What is known of a folder since it was last selected: its UIDVALIDITY, and the MODSEQ up to which changes were told.
-#[derive(Clone, Copy, Debug, PartialEq, Eq)]
+#[derive(Clone, Copy)]
 pub struct Known {
     pub validity: u32,
     pub mark: u64,

@@ -1,5 +1,5 @@
 //! Laws of the definitions, each the contract of a function that does nothing.
-ghost use Rattle.imap_commands.specs.ReadBack.{CommandsReadBack, CommandsEndOnce, PiecesAreFilled};
+ghost use Rattle.imap_commands.specs.ReadBack.{CommandsReadBack, NoCommandIsPrefix, PiecesAreNonempty};
 
 /// The pieces of a command joined read as that command and its tag, also where strings are literals: whatever bytes its texts hold.
 pub fn commands_read_back()
@@ -7,11 +7,11 @@ pub fn commands_read_back()
 {}
 
 /// No command is the beginning of another: bytes that lack the end of a command read as none.
-pub fn commands_end_once()
-    ensures { CommandsEndOnce }
+pub fn no_command_is_prefix()
+    ensures { NoCommandIsPrefix }
 {}
 
 /// No piece of a command is empty: what was said before its last piece is the beginning of the whole, and reads as no command.
-pub fn pieces_are_filled()
-    ensures { PiecesAreFilled }
+pub fn pieces_are_nonempty()
+    ensures { PiecesAreNonempty }
 {}

@@ -1,18 +1,14 @@
 //! The commands that are said to an IMAP4rev2 server (RFC 9051 §6), with QRESYNC and CONDSTORE (RFC 7162).
 #![tactic(auto)]
 
-pub mod command;
-pub mod laws;
-pub mod pieces;
-pub mod uid_set;
-pub mod writing;
+mod command;
+mod laws;
+mod pieces;
+mod uid_set;
+mod writing;
 
 pub use command::{Command, Known, Label};
+pub use laws::{commands_read_back, no_command_is_prefix, pieces_are_nonempty};
 pub use std::alloc::AllocError as Memory;
 pub use uid_set::{UidRange, UidSet};
 pub use writing::write;
-
-#[cfg(test)]
-mod tests;
-#[cfg(test)]
-mod uid_tests;

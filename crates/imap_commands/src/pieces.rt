@@ -1,9 +1,9 @@
 //! Writes the pieces of a command one part after the other.
 ghost use Rattle.std.specs.Prelude.{◌≡◌, ◌++◌, ◌∷◌, [], List, ℕ, map, IfOk, OnOk, decimal};
 ghost use Rattle.std.specs.List.{list_all, flat_map};
-ghost use Rattle.imap_commands.specs.Pieces.{Part, pieces_of, is_plain, is_quotable, quoted, quoted_byte, announced};
+ghost use Rattle.imap_commands.specs.Pieces.{Part, pieces_of, is_plain, is_quotable, quoted, quoted_byte, literal_size};
 ghost use Rattle.imap_commands.specs.Pieces.Part.{Words, Text as Str, Literal};
-ghost use Rattle.imap_commands.specs.Written.{lists, written, Goes};
+ghost use Rattle.imap_commands.specs.Written.{bytes_of_vecs, pieces_with, AppendsPart};
 
 use itoa::Buffer;
 use std::alloc::{AllocError as Memory, Global};
@@ -21,7 +21,7 @@ pub struct Pieces {
 impl Pieces {
     #[tactic(auto, using(crate::proofs::PieceLemmas::nothing_before))]
     pub fn new(alloc: Global) -> Self
-        ensures { (more : List Part) → written result more ≡ pieces_of more }
+        ensures { (more : List Part) → pieces_with result more ≡ pieces_of more }
     {
         Pieces {
             whole: Vec::new(alloc),
@@ -31,51 +31,51 @@ impl Pieces {
 
     /// Adds words as they stand.
     #[tactic(auto, using(crate::proofs::PieceLemmas::words_go))]
-    pub fn words(&mut self, words: &str) -> Result<(), Memory>
-        ensures { OnOk result (Goes self.old self.new (Words words.now)) }
+    pub fn push_words(&mut self, words: &str) -> Result<(), Memory>
+        ensures { OnOk result (AppendsPart self.old self.new (Words words.now)) }
     {
         self.last.extend_from_slice(words.as_bytes())
     }
 
     /// Adds a number in decimal.
-    pub fn number(&mut self, number: u64) -> Result<(), Memory>
-        ensures { OnOk result (Goes self.old self.new (Words (decimal number))) }
+    pub fn push_number(&mut self, number: u64) -> Result<(), Memory>
+        ensures { OnOk result (AppendsPart self.old self.new (Words (decimal number))) }
     {
-        self.words(Buffer::new().format(number))
+        self.push_words(Buffer::new().format(number))
     }
 
     /// Adds a number of 32 bits in decimal.
-    pub fn small(&mut self, number: u32) -> Result<(), Memory>
-        ensures { OnOk result (Goes self.old self.new (Words (decimal number))) }
+    pub fn push_u32(&mut self, number: u32) -> Result<(), Memory>
+        ensures { OnOk result (AppendsPart self.old self.new (Words (decimal number))) }
     {
-        self.number(u64::from(number))
+        self.push_number(u64::from(number))
     }
 
     /// Adds a string: quoted, or as a literal where it can't be quoted.
     #[tactic(auto, unfolding(crate::specs::Pieces::pieces_of))]
-    pub fn text(&mut self, alloc: Global, text: &str) -> Result<(), Memory>
-        ensures { OnOk result (Goes self.old self.new (Str text.now)) }
+    pub fn push_string(&mut self, alloc: Global, text: &str) -> Result<(), Memory>
+        ensures { OnOk result (AppendsPart self.old self.new (Str text.now)) }
     {
         if is_quotable(text.as_bytes()) {
-            self.quoted(text.as_bytes())
+            self.push_quoted(text.as_bytes())
         } else {
-            self.literal(alloc, text.as_bytes())
+            self.push_literal(alloc, text.as_bytes())
         }
     }
 
     #[tactic(auto, using(crate::proofs::PieceLemmas::words_go))]
-    fn quoted(&mut self, text: &[u8]) -> Result<(), Memory>
-        ensures { OnOk result (Goes self.old self.new (Words (quoted text.now))) }
+    fn push_quoted(&mut self, text: &[u8]) -> Result<(), Memory>
+        ensures { OnOk result (AppendsPart self.old self.new (Words (quoted text.now))) }
     {
-        push_quoted(&mut self.last, text)
+        append_quoted(&mut self.last, text)
     }
 
     /// Ends the piece by the size of a literal, and begins the next with its bytes.
     #[tactic(auto, using(crate::proofs::PieceLemmas::literal_goes))]
-    pub fn literal(&mut self, alloc: Global, bytes: &[u8]) -> Result<(), Memory>
-        ensures { OnOk result (Goes self.old self.new (Literal bytes.now)) }
+    pub fn push_literal(&mut self, alloc: Global, bytes: &[u8]) -> Result<(), Memory>
+        ensures { OnOk result (AppendsPart self.old self.new (Literal bytes.now)) }
     {
-        announce(&mut self.last, bytes.len())?;
+        append_size(&mut self.last, bytes.len())?;
         let next = Vec::from_slice(alloc, bytes)?;
         self.whole.push(std::mem::replace(&mut self.last, next))?;
         Ok(())
@@ -84,7 +84,7 @@ impl Pieces {
     /// Ends the last piece.
     #[tactic(auto, using(crate::proofs::PieceLemmas::ends))]
     pub fn finish(self) -> Result<Vec<Vec<u8>>, Memory>
-        ensures { IfOk result (λ pieces. lists pieces.items ≡ written self []) }
+        ensures { IfOk result (λ pieces. bytes_of_vecs pieces.items ≡ pieces_with self []) }
     {
         let mut last = self.last;
         last.extend_from_slice(b"\r\n")?;
@@ -95,8 +95,8 @@ impl Pieces {
 }
 
 /// Says how many bytes a literal has.
-fn announce(piece: &mut Vec<u8>, size: usize) -> Result<(), Memory>
-    ensures { OnOk result (piece.new.items ≡ piece.old.items ++ announced size) }
+fn append_size(piece: &mut Vec<u8>, size: usize) -> Result<(), Memory>
+    ensures { OnOk result (piece.new.items ≡ piece.old.items ++ literal_size size) }
 {
     piece.push(b'{')?;
     piece.extend_from_slice(Buffer::new().format(size).as_bytes())?;
@@ -115,25 +115,25 @@ fn is_plain(text: &[u8]) -> bool
     text.iter().all(|b| *b >= 32 && *b <= 126)
 }
 
-fn push_quoted(bytes: &mut Vec<u8>, text: &[u8]) -> Result<(), Memory>
+fn append_quoted(bytes: &mut Vec<u8>, text: &[u8]) -> Result<(), Memory>
     ensures { OnOk result (bytes.new.items ≡ bytes.old.items ++ quoted text.now) }
 {
     bytes.push(b'"')?;
-    push_escaped(bytes, text)?;
+    append_escaped(bytes, text)?;
     bytes.push(b'"')?;
     Ok(())
 }
 
-fn push_escaped(bytes: &mut Vec<u8>, text: &[u8]) -> Result<(), Memory>
+fn append_escaped(bytes: &mut Vec<u8>, text: &[u8]) -> Result<(), Memory>
     ensures { OnOk result (bytes.new.items ≡ bytes.old.items ++ flat_map quoted_byte text.now) }
 {
     for byte in text {
-        push_quoted_byte(bytes, *byte)?;
+        append_quoted_byte(bytes, *byte)?;
     }
     Ok(())
 }
 
-fn push_quoted_byte(bytes: &mut Vec<u8>, byte: u8) -> Result<(), Memory>
+fn append_quoted_byte(bytes: &mut Vec<u8>, byte: u8) -> Result<(), Memory>
     ensures { OnOk result (bytes.new.items ≡ bytes.old.items ++ quoted_byte byte) }
 {
     if byte == b'"' || byte == b'\\' {

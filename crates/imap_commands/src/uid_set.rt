@@ -1,13 +1,13 @@
 //! Sets of UIDs, as a server sends them (RFC 9051 §9, `uid-set`).
 ghost use Rattle.std.specs.Prelude.{◌≡◌, ℕ, ◌≤◌, ◌||◌, ◌++◌, List, min, max, IfOk, OnOk};
 ghost use Rattle.imap_commands.specs.declared.uid_set.UidRange.{UidRange};
-ghost use Rattle.imap_commands.specs.UidSets.{in_range, has, AreApart, BeginBy, joined};
+ghost use Rattle.imap_commands.specs.UidSets.{in_range, contains_uid, AreApart, BeginBy, joined};
 
 use std::alloc::{AllocError as Memory, Global};
 use std::marker::Model;
 
 /// The UIDs from the first to the last, both among them.
-#[derive(Clone, Copy, Debug, PartialEq, Eq)]
+#[derive(Clone, Copy)]
 pub struct UidRange {
     pub first: u32,
     pub last: u32,
@@ -43,7 +43,7 @@ impl Model for UidSet {
 impl UidSet {
     /// The UIDs of any of the ranges, which come in any order and may overlap. A range whose last UID is below its first has none.
     pub fn of(alloc: Global, mut ranges: Vec<UidRange>) -> Result<UidSet, Memory>
-        ensures { IfOk result (λ set. (uid : ℕ) → has uid set ≡ has uid ranges.items) }
+        ensures { IfOk result (λ set. (uid : ℕ) → contains_uid uid set ≡ contains_uid uid ranges.items) }
     {
         ranges.sort_unstable_by_key(|range| range.first);
         let mut merged = Vec::new(alloc);
@@ -55,7 +55,7 @@ impl UidSet {
 
     /// Whether a UID is in the set: found by halving, with no memory.
     pub fn contains(&self, uid: u32) -> bool
-        ensures { result ≡ has uid self.now }
+        ensures { result ≡ contains_uid uid self.now }
     {
         let next = self.ranges.partition_point(|range| range.last < uid);
         match self.ranges.get(next) {
@@ -78,7 +78,7 @@ fn add(merged: &mut Vec<UidRange>, range: UidRange) -> Result<(), Memory>
     requires latest { BeginBy range.first merged.old.items }
     ensures apart { OnOk result (AreApart merged.new.items) }
     ensures latest { OnOk result (BeginBy range.first merged.new.items) }
-    ensures members { OnOk result ((uid : ℕ) → has uid merged.new.items ≡ (has uid merged.old.items || in_range uid range)) }
+    ensures members { OnOk result ((uid : ℕ) → contains_uid uid merged.new.items ≡ (contains_uid uid merged.old.items || in_range uid range)) }
 {
     if range.last < range.first {
         return Ok(());

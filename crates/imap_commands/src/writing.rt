@@ -2,21 +2,21 @@
 ghost use Rattle.std.specs.Prelude.{◌≡◌, ◌++◌, ◌∷◌, [], map, codes, decimal, IfOk, OnOk, List, ℕ};
 ghost use Rattle.std.specs.List.{concat};
 ghost use Rattle.imap_commands.specs.Pieces.Part.{Words, Text as Str, Literal};
-ghost use Rattle.imap_commands.specs.Written.{lists, Goes, GoesBy};
-ghost use Rattle.imap_commands.specs.Commands.{said, parts, tag_parts, label_word, label_words, known_parts, mark_parts, resync_parts, sign};
-ghost use Rattle.imap_commands.specs.Reading.{command_of};
-ghost use Rattle.imap_commands.specs.ReadBack.{spoken, IsSayable, IsKnownSayable, IsNoneBefore};
+ghost use Rattle.imap_commands.specs.Written.{bytes_of_vecs, AppendsPart, AppendsParts};
+ghost use Rattle.imap_commands.specs.Commands.{command_pieces, command_parts, tag_parts, label_word, label_words, known_parts, mark_parts, resync_parts, sign};
+ghost use Rattle.imap_commands.specs.CommandGrammar.{command_of};
+ghost use Rattle.imap_commands.specs.ReadBack.{written_form, FitsFieldTypes, KnownFitsFieldTypes, HasNoCommandPrefix};
 
 use crate::command::{Command, Known, Label};
 use crate::pieces::Pieces;
 use std::alloc::{AllocError as Memory, Global};
 
 /// The pieces of a command with the tag `A` and a number. Between two pieces the server's `+` is awaited.
-#[tactic(auto, unfolding(crate::specs::Commands::said))]
+#[tactic(auto, unfolding(crate::specs::Commands::command_pieces))]
 pub fn write(alloc: Global, command: &Command, tag: u32) -> Result<Vec<Vec<u8>>, Memory>
-    ensures pieces { IfOk result (λ pieces. lists pieces.items ≡ said tag command.now) }
-    ensures reads { IfOk result (λ pieces. command_of (concat (lists pieces.items)) ≡ Some (tag, spoken command.now)) }
-    ensures ends_once { IfOk result (λ pieces. IsNoneBefore (concat (lists pieces.items))) }
+    ensures equals { IfOk result (λ pieces. bytes_of_vecs pieces.items ≡ command_pieces tag command.now) }
+    ensures parses { IfOk result (λ pieces. command_of (concat (bytes_of_vecs pieces.items)) ≡ Some (tag, written_form command.now)) }
+    ensures no_prefix_parses { IfOk result (λ pieces. HasNoCommandPrefix (concat (bytes_of_vecs pieces.items))) }
 {
     let mut pieces = Pieces::new(alloc);
     write_tag(&mut pieces, tag)?;
@@ -26,28 +26,28 @@ pub fn write(alloc: Global, command: &Command, tag: u32) -> Result<Vec<Vec<u8>>,
 
 #[tactic(auto, using(crate::proofs::PieceLemmas::goes_three))]
 fn write_tag(pieces: &mut Pieces, tag: u32) -> Result<(), Memory>
-    ensures { OnOk result (GoesBy pieces.old pieces.new (tag_parts tag)) }
+    ensures { OnOk result (AppendsParts pieces.old pieces.new (tag_parts tag)) }
 {
-    pieces.words("A")?;
-    pieces.small(tag)?;
-    pieces.words(" ")?;
+    pieces.push_words("A")?;
+    pieces.push_u32(tag)?;
+    pieces.push_words(" ")?;
     Ok(())
 }
 
-#[tactic(auto, unfolding(crate::specs::Commands::parts))]
+#[tactic(auto, unfolding(crate::specs::Commands::command_parts))]
 fn write_parts(alloc: Global, pieces: &mut Pieces, command: &Command) -> Result<(), Memory>
-    ensures parts { OnOk result (GoesBy pieces.old pieces.new (parts command.now)) }
-    ensures fits { OnOk result (IsSayable command.now) }
+    ensures parts { OnOk result (AppendsParts pieces.old pieces.new (command_parts command.now)) }
+    ensures fits { OnOk result (FitsFieldTypes command.now) }
 {
     match command {
         Command::Login { user, password } => {
             write_login(alloc, pieces, user.as_str(), password.as_str())
         }
-        Command::Capability => pieces.words("CAPABILITY"),
-        Command::Enable => pieces.words("ENABLE IMAP4rev2 QRESYNC"),
-        Command::List => pieces.words("LIST \"\" \"*\""),
+        Command::Capability => pieces.push_words("CAPABILITY"),
+        Command::Enable => pieces.push_words("ENABLE IMAP4rev2 QRESYNC"),
+        Command::List => pieces.push_words("LIST \"\" \"*\""),
         Command::Select { folder, known } => write_select(alloc, pieces, folder.as_str(), known),
-        Command::Noop => pieces.words("NOOP"),
+        Command::Noop => pieces.push_words("NOOP"),
         Command::FetchNew { from } => write_fetch(
             pieces,
             *from,
@@ -68,12 +68,12 @@ fn write_parts(alloc: Global, pieces: &mut Pieces, command: &Command) -> Result<
 }
 
 fn write_login(alloc: Global, pieces: &mut Pieces, user: &str, password: &str) -> Result<(), Memory>
-    ensures { OnOk result (GoesBy pieces.old pieces.new (Words (codes "LOGIN ") ∷ Str user.now ∷ Words (codes " ") ∷ Str password.now ∷ [])) }
+    ensures { OnOk result (AppendsParts pieces.old pieces.new (Words (codes "LOGIN ") ∷ Str user.now ∷ Words (codes " ") ∷ Str password.now ∷ [])) }
 {
-    pieces.words("LOGIN ")?;
-    pieces.text(alloc, user)?;
-    pieces.words(" ")?;
-    pieces.text(alloc, password)?;
+    pieces.push_words("LOGIN ")?;
+    pieces.push_string(alloc, user)?;
+    pieces.push_words(" ")?;
+    pieces.push_string(alloc, password)?;
     Ok(())
 }
 
@@ -83,19 +83,19 @@ fn write_select(
     folder: &str,
     known: &Option<Known>,
 ) -> Result<(), Memory>
-    ensures parts { OnOk result (GoesBy pieces.old pieces.new (Words (codes "SELECT ") ∷ Str folder.now ∷ known_parts known.now)) }
-    ensures fits { OnOk result (IsKnownSayable known.now) }
+    ensures parts { OnOk result (AppendsParts pieces.old pieces.new (Words (codes "SELECT ") ∷ Str folder.now ∷ known_parts known.now)) }
+    ensures fits { OnOk result (KnownFitsFieldTypes known.now) }
 {
-    pieces.words("SELECT ")?;
-    pieces.text(alloc, folder)?;
+    pieces.push_words("SELECT ")?;
+    pieces.push_string(alloc, folder)?;
     write_known(pieces, known)?;
     Ok(())
 }
 
 /// Says up to which mark changes were told, where they were.
 fn write_known(pieces: &mut Pieces, known: &Option<Known>) -> Result<(), Memory>
-    ensures parts { OnOk result (GoesBy pieces.old pieces.new (known_parts known.now)) }
-    ensures fits { OnOk result (IsKnownSayable known.now) }
+    ensures parts { OnOk result (AppendsParts pieces.old pieces.new (known_parts known.now)) }
+    ensures fits { OnOk result (KnownFitsFieldTypes known.now) }
 {
     match known {
         Some(known) => write_mark(pieces, *known),
@@ -104,8 +104,8 @@ fn write_known(pieces: &mut Pieces, known: &Option<Known>) -> Result<(), Memory>
 }
 
 fn write_mark(pieces: &mut Pieces, known: Known) -> Result<(), Memory>
-    ensures parts { OnOk result (GoesBy pieces.old pieces.new (mark_parts known)) }
-    ensures fits { IsKnownSayable (Some known) }
+    ensures parts { OnOk result (AppendsParts pieces.old pieces.new (mark_parts known)) }
+    ensures fits { KnownFitsFieldTypes (Some known) }
 {
     if known.mark == 0 {
         Ok(())
@@ -115,73 +115,73 @@ fn write_mark(pieces: &mut Pieces, known: Known) -> Result<(), Memory>
 }
 
 fn write_resync(pieces: &mut Pieces, known: Known) -> Result<(), Memory>
-    ensures { OnOk result (GoesBy pieces.old pieces.new (resync_parts known)) }
+    ensures { OnOk result (AppendsParts pieces.old pieces.new (resync_parts known)) }
 {
-    pieces.words(" (QRESYNC (")?;
-    pieces.small(known.validity)?;
-    pieces.words(" ")?;
-    pieces.number(known.mark)?;
-    pieces.words("))")?;
+    pieces.push_words(" (QRESYNC (")?;
+    pieces.push_u32(known.validity)?;
+    pieces.push_words(" ")?;
+    pieces.push_number(known.mark)?;
+    pieces.push_words("))")?;
     Ok(())
 }
 
 fn write_fetch(pieces: &mut Pieces, from: u32, items: &str) -> Result<(), Memory>
-    ensures { OnOk result (GoesBy pieces.old pieces.new (Words (codes "UID FETCH ") ∷ Words (decimal from) ∷ Words items.now ∷ [])) }
+    ensures { OnOk result (AppendsParts pieces.old pieces.new (Words (codes "UID FETCH ") ∷ Words (decimal from) ∷ Words items.now ∷ [])) }
 {
-    pieces.words("UID FETCH ")?;
-    pieces.small(from)?;
-    pieces.words(items)?;
+    pieces.push_words("UID FETCH ")?;
+    pieces.push_u32(from)?;
+    pieces.push_words(items)?;
     Ok(())
 }
 
 fn write_changed(pieces: &mut Pieces, mark: u64) -> Result<(), Memory>
-    ensures { OnOk result (GoesBy pieces.old pieces.new (Words (codes "UID FETCH 1:* (UID FLAGS MODSEQ) (CHANGEDSINCE ") ∷ Words (decimal mark) ∷ Words (codes " VANISHED)") ∷ [])) }
+    ensures { OnOk result (AppendsParts pieces.old pieces.new (Words (codes "UID FETCH 1:* (UID FLAGS MODSEQ) (CHANGEDSINCE ") ∷ Words (decimal mark) ∷ Words (codes " VANISHED)") ∷ [])) }
 {
-    pieces.words("UID FETCH 1:* (UID FLAGS MODSEQ) (CHANGEDSINCE ")?;
-    pieces.number(mark)?;
-    pieces.words(" VANISHED)")?;
+    pieces.push_words("UID FETCH 1:* (UID FLAGS MODSEQ) (CHANGEDSINCE ")?;
+    pieces.push_number(mark)?;
+    pieces.push_words(" VANISHED)")?;
     Ok(())
 }
 
 fn write_search(alloc: Global, pieces: &mut Pieces, words: &str) -> Result<(), Memory>
-    ensures { OnOk result (GoesBy pieces.old pieces.new (Words (codes "UID SEARCH RETURN (ALL) TEXT ") ∷ Str words.now ∷ [])) }
+    ensures { OnOk result (AppendsParts pieces.old pieces.new (Words (codes "UID SEARCH RETURN (ALL) TEXT ") ∷ Str words.now ∷ [])) }
 {
-    pieces.words("UID SEARCH RETURN (ALL) TEXT ")?;
-    pieces.text(alloc, words)?;
+    pieces.push_words("UID SEARCH RETURN (ALL) TEXT ")?;
+    pieces.push_string(alloc, words)?;
     Ok(())
 }
 
 fn write_store(pieces: &mut Pieces, uid: u32, label: Label, on: bool) -> Result<(), Memory>
-    ensures { OnOk result (GoesBy pieces.old pieces.new (Words (codes "UID STORE ") ∷ Words (decimal uid) ∷ Words (sign on) ∷ Words (label_word label) ∷ Words (codes ")") ∷ [])) }
+    ensures { OnOk result (AppendsParts pieces.old pieces.new (Words (codes "UID STORE ") ∷ Words (decimal uid) ∷ Words (sign on) ∷ Words (label_word label) ∷ Words (codes ")") ∷ [])) }
 {
-    pieces.words("UID STORE ")?;
-    pieces.small(uid)?;
+    pieces.push_words("UID STORE ")?;
+    pieces.push_u32(uid)?;
     write_sign(pieces, on)?;
     write_label(pieces, label)?;
-    pieces.words(")")?;
+    pieces.push_words(")")?;
     Ok(())
 }
 
 fn write_sign(pieces: &mut Pieces, on: bool) -> Result<(), Memory>
-    ensures { OnOk result (Goes pieces.old pieces.new (Words (sign on))) }
+    ensures { OnOk result (AppendsPart pieces.old pieces.new (Words (sign on))) }
 {
     if on {
-        pieces.words(" +FLAGS (")
+        pieces.push_words(" +FLAGS (")
     } else {
-        pieces.words(" -FLAGS (")
+        pieces.push_words(" -FLAGS (")
     }
 }
 
 fn write_label(pieces: &mut Pieces, label: Label) -> Result<(), Memory>
-    ensures { OnOk result (Goes pieces.old pieces.new (Words (label_word label))) }
+    ensures { OnOk result (AppendsPart pieces.old pieces.new (Words (label_word label))) }
 {
-    pieces.words(label_word(label))
+    pieces.push_words(label_word(label))
 }
 
 fn write_labels(pieces: &mut Pieces, label: &Option<Label>) -> Result<(), Memory>
-    ensures { OnOk result (Goes pieces.old pieces.new (Words (label_words label.now))) }
+    ensures { OnOk result (AppendsPart pieces.old pieces.new (Words (label_words label.now))) }
 {
-    pieces.words(label_words(label))
+    pieces.push_words(label_words(label))
 }
 
 fn label_word(label: Label) -> &'static str
@@ -206,20 +206,20 @@ fn label_words(label: &Option<Label>) -> &'static str
 }
 
 fn write_move(alloc: Global, pieces: &mut Pieces, uid: u32, to: &str) -> Result<(), Memory>
-    ensures { OnOk result (GoesBy pieces.old pieces.new (Words (codes "UID MOVE ") ∷ Words (decimal uid) ∷ Words (codes " ") ∷ Str to.now ∷ [])) }
+    ensures { OnOk result (AppendsParts pieces.old pieces.new (Words (codes "UID MOVE ") ∷ Words (decimal uid) ∷ Words (codes " ") ∷ Str to.now ∷ [])) }
 {
-    pieces.words("UID MOVE ")?;
-    pieces.small(uid)?;
-    pieces.words(" ")?;
-    pieces.text(alloc, to)?;
+    pieces.push_words("UID MOVE ")?;
+    pieces.push_u32(uid)?;
+    pieces.push_words(" ")?;
+    pieces.push_string(alloc, to)?;
     Ok(())
 }
 
 fn write_expunge(pieces: &mut Pieces, uid: u32) -> Result<(), Memory>
-    ensures { OnOk result (GoesBy pieces.old pieces.new (Words (codes "UID EXPUNGE ") ∷ Words (decimal uid) ∷ [])) }
+    ensures { OnOk result (AppendsParts pieces.old pieces.new (Words (codes "UID EXPUNGE ") ∷ Words (decimal uid) ∷ [])) }
 {
-    pieces.words("UID EXPUNGE ")?;
-    pieces.small(uid)?;
+    pieces.push_words("UID EXPUNGE ")?;
+    pieces.push_u32(uid)?;
     Ok(())
 }
 
@@ -230,13 +230,13 @@ fn write_append(
     label: &Option<Label>,
     message: &[u8],
 ) -> Result<(), Memory>
-    ensures { OnOk result (GoesBy pieces.old pieces.new (Words (codes "APPEND ") ∷ Str folder.now ∷ Words (codes " (") ∷ Words (label_words label.now) ∷ Words (codes ") ") ∷ Literal message.now ∷ [])) }
+    ensures { OnOk result (AppendsParts pieces.old pieces.new (Words (codes "APPEND ") ∷ Str folder.now ∷ Words (codes " (") ∷ Words (label_words label.now) ∷ Words (codes ") ") ∷ Literal message.now ∷ [])) }
 {
-    pieces.words("APPEND ")?;
-    pieces.text(alloc, folder)?;
-    pieces.words(" (")?;
+    pieces.push_words("APPEND ")?;
+    pieces.push_string(alloc, folder)?;
+    pieces.push_words(" (")?;
     write_labels(pieces, label)?;
-    pieces.words(") ")?;
-    pieces.literal(alloc, message)?;
+    pieces.push_words(") ")?;
+    pieces.push_literal(alloc, message)?;
     Ok(())
 }

@@ -1,13 +1,2 @@
-pub mod Slices
-pub mod Things
-pub mod Words
-pub mod Strings
-pub mod Values
-pub mod Dates
-pub mod Codes
-pub mod Items
-pub mod Sets
-pub mod Searches
-pub mod Response
-pub mod Readings
-pub mod Talks
+pub mod ReaderStates
+pub mod ResponseStreams

@@ -1,14 +1,14 @@
-//! Why no response was given.
+//! Why no response was read.
 ghost use Rattle.std.specs.Prelude.{◌≡◌};
 ghost use Rattle.imap_responses.specs.declared.fault.ReadFault.TheVariants.{Damaged, Memory};
 
-use imap_units::TooLong;
+use imap_framing::TooLong;
 use std::alloc::{AllocError, AllocFailed};
 
-/// Why a reader gave no response.
-#[derive(Clone, Copy, Debug, PartialEq, Eq)]
+/// Why a reader returned no response.
+#[derive(Clone, Copy, Debug, PartialEq)]
 pub enum ReadFault {
-    /// The unit that begins there, counted from the dial's first byte, is no response, or a literal of it announces too many octets.
+    /// The unit at that offset in the connection's bytes is no response, or has a literal that is too long.
     Damaged { at: u64 },
     Memory,
 }

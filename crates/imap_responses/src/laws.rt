@@ -1,8 +1,8 @@
-//! What holds of the bytes of all dials.
-ghost use Rattle.imap_responses.specs.Talks.{SplitsOnce, EndsAreApart};
+//! Laws of responses, each the contract of a function that does nothing.
+ghost use Rattle.imap_responses.specs.ResponseStreams.{SplitIsUnique, EndsAreDistinct};
 
-/// The bytes of a dial are cut into responses in one way, and either wait for more or are damaged.
+/// The bytes of a connection are cut into responses in one way only, and an incomplete unit is no damage.
 pub fn one_split()
-    ensures once { SplitsOnce }
-    ensures ends { EndsAreApart }
+    ensures unique { SplitIsUnique }
+    ensures distinct_ends { EndsAreDistinct }
 {}

@@ -1,21 +1,20 @@
-//! Responses from the pieces in which a server's bytes come.
+//! Reads responses from bytes that arrive in pieces.
 ghost use Rattle.std.specs.Prelude.{◌≡◌, false, true, IsSome, Some, IfOk, IfErr};
-ghost use Rattle.imap_units.specs.Cuts.{fresh};
+ghost use Rattle.imap_framing.specs.Cuts.{empty_cut};
 ghost use Rattle.imap_responses.specs.declared.fault.ReadFault.TheVariants as faults;
-ghost use Rattle.imap_responses.specs.Response.{response_of, data_of};
-ghost use Rattle.imap_responses.specs.Readings.{Reading, Feeds, Judges, Advances, NextIs, TellsResponse};
+ghost use Rattle.imap_grammar.specs.Response.{response_of, data_of};
+ghost use Rattle.imap_responses.specs.ReaderStates.{ReaderState, FeedsReader, ChecksUnit, AdvancesReader, NextResponseIs, TellsIfResponse};
 
 use crate::fault::ReadFault;
-use crate::reading::read_response;
-use crate::response::Response;
-use imap_units::UnitReader;
+use imap_framing::UnitReader;
+use imap_grammar::{Response, read_response};
 use std::alloc::{AllocError, Global};
 use std::marker::Model;
 
-/// The bytes that came in one dial, and the responses that they hold.
+/// A buffer for the bytes of one connection, from which responses are read.
 ///
-/// `while reader.advance()?` with `reader.current()?` goes through the responses that are there. `next` does both, but a caller knows
-/// only from the other two what the reader holds afterwards.
+/// A loop `while reader.advance()?` with `reader.current()?` reads the responses so far. `next` does both, but only the contracts of
+/// the other two say what state the reader is in afterwards.
 #[derive(Drop)]
 pub struct Reader {
     alloc: Global,
@@ -24,16 +23,16 @@ pub struct Reader {
 }
 
 impl Model for Reader {
-    ghost use Rattle.imap_responses.specs.Readings.{Reading};
+    ghost use Rattle.imap_responses.specs.ReaderStates.{ReaderState};
 
-    ghost Value = { Reading };
+    ghost Value = { ReaderState };
 
     ghost view = { λ r. record { cut = r.units; damaged = r.damaged } };
 }
 
-/// Whether a unit is a response: read and dropped.
+/// Whether a unit is a response.
 fn is_response(alloc: Global, unit: &[u8]) -> Result<bool, AllocError>
-    ensures { TellsResponse result unit.now }
+    ensures { TellsIfResponse result unit.now }
 {
     match read_response(alloc, unit) {
         Ok(Some(_)) => Ok(true),
@@ -43,9 +42,9 @@ fn is_response(alloc: Global, unit: &[u8]) -> Result<bool, AllocError>
 }
 
 impl Reader {
-    /// A reader of a fresh dial.
+    /// Creates a reader of a new connection.
     pub fn new(alloc: Global) -> Reader
-        ensures { result ≡ record { cut = fresh; damaged = false } }
+        ensures { result ≡ record { cut = empty_cut; damaged = false } }
     {
         Reader {
             alloc,
@@ -54,9 +53,9 @@ impl Reader {
         }
     }
 
-    /// Appends bytes. A dial has fewer than 2 ^ 64; out of memory answers those that would be more.
+    /// Appends bytes. A connection has fewer than 2^64 bytes; more are refused as out of memory.
     pub fn feed(&mut self, bytes: &[u8]) -> Result<(), ReadFault>
-        ensures { Feeds self.old bytes.now result self.new }
+        ensures { FeedsReader self.old bytes.now result self.new }
     {
         if self.damaged {
             Err(self.fault())
@@ -66,30 +65,30 @@ impl Reader {
         }
     }
 
-    /// Goes to the next response. `false` says that the rest begins with no whole unit, and is no damage.
+    /// Advances to the next response. Returns `false` if the next unit is incomplete.
     pub fn advance(&mut self) -> Result<bool, ReadFault>
-        ensures { Advances self.old result self.new }
+        ensures { AdvancesReader self.old result self.new }
     {
         if self.damaged {
             return Err(self.fault());
         }
         match self.units.advance() {
-            Ok(true) => self.judge(),
+            Ok(true) => self.check_unit(),
             Ok(false) => Ok(false),
-            Err(_) => Err(self.damage()),
+            Err(_) => Err(self.mark_damaged()),
         }
     }
 
-    /// Keeps the unit that was just given if it is a response, and gives it back if not.
-    fn judge(&mut self) -> Result<bool, ReadFault>
+    /// Keeps the unit that was just given if it is a response, and else gives it back.
+    fn check_unit(&mut self) -> Result<bool, ReadFault>
         requires { self.old.damaged ≡ false }
-        ensures { Judges self.old result self.new }
+        ensures { ChecksUnit self.old result self.new }
     {
         match is_response(self.alloc, self.units.unit()) {
             Ok(true) => Ok(true),
             Ok(false) => {
                 self.units.give_back();
-                Err(self.damage())
+                Err(self.mark_damaged())
             }
             Err(_) => {
                 self.units.give_back();
@@ -98,10 +97,10 @@ impl Reader {
         }
     }
 
-    /// Reads nothing from here on.
-    fn damage(&mut self) -> ReadFault
-        ensures answer { result ≡ faults.Damaged self.old.cut.at }
-        ensures done { self.new ≡ record { cut = self.old.cut; damaged = true } }
+    /// Marks the reader as damaged: it reads no more responses.
+    fn mark_damaged(&mut self) -> ReadFault
+        ensures equals { result ≡ faults.Damaged self.old.cut.at }
+        ensures marks { self.new ≡ record { cut = self.old.cut; damaged = true } }
     {
         self.damaged = true;
         self.fault()
@@ -115,10 +114,10 @@ impl Reader {
         }
     }
 
-    /// The response that the reader went to last; its text is lent from the reader. No bytes were fed since.
+    /// Returns the response that the reader advanced to last, if no bytes were fed since. It borrows from the reader.
     pub fn current(&self) -> Result<Response<'_>, ReadFault>
         requires { IsSome (response_of self.now.cut.given) }
-        ensures gives { IfOk result (λ r. response_of self.now.cut.given ≡ Some (data_of r)) }
+        ensures equals { IfOk result (λ r. response_of self.now.cut.given ≡ Some (data_of r)) }
         ensures memory { IfErr result (λ e. e ≡ faults.Memory) }
     {
         match read_response(self.alloc, self.units.unit()) {
@@ -128,16 +127,16 @@ impl Reader {
         }
     }
 
-    /// The bytes of that response.
+    /// The unit of that response.
     pub fn unit(&self) -> &[u8]
         ensures { result.now ≡ self.now.cut.given }
     {
         self.units.unit()
     }
 
-    /// The next response, if there is one.
+    /// Returns the next response, or `None` if the next unit is incomplete.
     pub fn next(&mut self) -> Result<Option<Response<'_>>, ReadFault>
-        ensures { NextIs self.old result }
+        ensures { NextResponseIs self.old result }
     {
         if !self.advance()? {
             return Ok(None);

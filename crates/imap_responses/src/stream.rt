@@ -1,17 +1,17 @@
-//! The responses of all that came in one dial.
+//! Reads all responses of one connection.
 ghost use Rattle.std.specs.Prelude.{◌≡◌, false};
 ghost use Rattle.std.specs.List.{concat};
-ghost use Rattle.imap_units.specs.Streams.{bytes_of};
-ghost use Rattle.imap_responses.specs.Talks.{TakesAll, TalkGives};
+ghost use Rattle.imap_framing.specs.Streams.{bytes_of_vecs};
+ghost use Rattle.imap_responses.specs.ResponseStreams.{TakesAllResponses, ReadsResponses};
 
 use crate::fault::ReadFault;
 use crate::reader::Reader;
 use std::alloc::Global;
 
-/// Adds the units of all responses that a reader has.
+/// Appends the unit of each response of a reader.
 fn take_all(alloc: Global, reader: &mut Reader, units: &mut Vec<Vec<u8>>) -> Result<(), ReadFault>
     requires { reader.old.damaged ≡ false }
-    ensures { TakesAll reader.old (bytes_of units.old.items) result reader.new (bytes_of units.new.items) }
+    ensures { TakesAllResponses reader.old (bytes_of_vecs units.old.items) result reader.new (bytes_of_vecs units.new.items) }
 {
     while reader.advance()? {
         units.push(Vec::from_slice(alloc, reader.unit())?)?;
@@ -19,9 +19,10 @@ fn take_all(alloc: Global, reader: &mut Reader, units: &mut Vec<Vec<u8>>) -> Res
     Ok(())
 }
 
-/// The units of the responses of a dial whose bytes come in these pieces: those of the joined bytes, wherever these are cut.
+/// Returns the units of the responses of a connection whose bytes arrive in these pieces. They depend on the joined bytes alone, not on
+/// where these are cut.
 pub fn response_units(alloc: Global, pieces: &[Vec<u8>]) -> Result<Vec<Vec<u8>>, ReadFault>
-    ensures { TalkGives (concat (bytes_of pieces.now)) result }
+    ensures { ReadsResponses (concat (bytes_of_vecs pieces.now)) result }
 {
     let mut reader = Reader::new(alloc);
     let mut units = Vec::new(alloc);

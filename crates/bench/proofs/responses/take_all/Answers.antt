@@ -1,4 +1,4 @@
-use Rattle.imap_responses.proofs.TalkLemmas.{answered_less}
+use Rattle.imap_responses.proofs.StreamLemmas.{answered_less}
 use Rattle.bench.proofs.responses.take_all.Goals as goal
 
 pub loop-reader-smaller : goal.loop-reader-smaller

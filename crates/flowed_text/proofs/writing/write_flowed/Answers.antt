@@ -11,7 +11,7 @@ small : (depth : ℕ) → depth < 4294967296 → depth ≤ 4294967295
 small depth lt = omega arith
 
 pub loop-para-init : goal.loop-para-init
-loop-para-init c = record { text = c.new-text.ensures.bytes ∙ flow-nil; shallow = All-nil IsShallow }
+loop-para-init c = record { text = c.in_ok-text.ensures.bytes ∙ flow-nil; shallow = All-nil IsShallow }
 
 pub loop-para-preserved : goal.loop-para-preserved
 loop-para-preserved c = record {
@@ -21,7 +21,7 @@ loop-para-preserved c = record {
       (subst IsShallow c.para-item.is (small c.para-item.result.depth c.in_ok-write_para.ensures.depth));
 }
 
-pub returns-clause-reads : goal.returns-clause-reads
-returns-clause-reads c = λ whole.
+pub returns-clause-parses : goal.returns-clause-parses
+returns-clause-parses c = λ whole.
     let all : take c.loop-para.para-index c.args.paras.now ≡ c.args.paras.now = take_all c.loop-para.para-index c.args.paras.now c.loop-para-test.false in
     paras_of-flow c.args.paras.now (string_bytes c.loop-para.text) (c.loop-para.invariant.text ∙ ap flow all) (subst (All IsShallow) all c.loop-para.invariant.shallow) whole

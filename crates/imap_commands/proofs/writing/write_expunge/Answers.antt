@@ -4,5 +4,5 @@ use Rattle.imap_commands.proofs.writing.write_expunge.Goals as goal
 
 pub returns : goal.returns
 returns c = λ more.
-    c.in_ok-small.ensures more
-    ∙ c.in_ok-words.ensures (Words (decimal c.args.uid) ∷ more)
+    c.in_ok-push_u32.ensures more
+    ∙ c.in_ok-push_words.ensures (Words (decimal c.args.uid) ∷ more)

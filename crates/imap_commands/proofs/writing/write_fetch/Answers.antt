@@ -4,6 +4,6 @@ use Rattle.imap_commands.proofs.writing.write_fetch.Goals as goal
 
 pub returns : goal.returns
 returns c = λ more.
-    c.in_ok-words-2.ensures more
-    ∙ c.in_ok-small.ensures (Words (c.args.items.now) ∷ more)
-    ∙ c.in_ok-words.ensures (Words (decimal c.args.from) ∷ Words (c.args.items.now) ∷ more)
+    c.in_ok-push_words-2.ensures more
+    ∙ c.in_ok-push_u32.ensures (Words (c.args.items.now) ∷ more)
+    ∙ c.in_ok-push_words.ensures (Words (decimal c.args.from) ∷ Words (c.args.items.now) ∷ more)

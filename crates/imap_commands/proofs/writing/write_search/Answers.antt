@@ -4,5 +4,5 @@ use Rattle.imap_commands.proofs.writing.write_search.Goals as goal
 
 pub returns : goal.returns
 returns c = λ more.
-    c.in_ok-text.ensures more
-    ∙ c.in_ok-words.ensures (Text c.args.words.now ∷ more)
+    c.in_ok-push_string.ensures more
+    ∙ c.in_ok-push_words.ensures (Text c.args.words.now ∷ more)

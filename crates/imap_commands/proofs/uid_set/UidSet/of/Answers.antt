@@ -4,7 +4,7 @@ use Rattle.std.proofs.lemmas.List.{get_or_default}
 use Rattle.std.proofs.lemmas.List.Folds.{list_any_more}
 use Rattle.std.proofs.lemmas.List.Sorted.{IsNonDecreasingBy-from_sort_by_key, list_any-IsPermutation}
 use Rattle.imap_commands.specs.declared.uid_set.UidRange.{UidRange}
-use Rattle.imap_commands.specs.UidSets.{in_range, has, BeginBy}
+use Rattle.imap_commands.specs.UidSets.{in_range, contains_uid, BeginBy}
 use Rattle.imap_commands.proofs.UidSetLemmas.{begin_later}
 use Rattle.imap_commands.proofs.uid_set.UidSet.of.Goals as goal
 
@@ -29,5 +29,5 @@ loop-range-preserved c =
 pub returns : goal.returns
 returns c = λ uid.
     c.loop-range.invariant.members uid
-    ∙ ap (has uid) (take_all _ _ c.loop-range-test.false ∙ c.deref-range-items.ensures.value)
+    ∙ ap (contains_uid uid) (take_all _ _ c.loop-range-test.false ∙ c.deref-range-items.ensures.value)
     ∙ sym (list_any-IsPermutation (in_range uid) _ _ c.sort_unstable_by_key.ensures.permutation)

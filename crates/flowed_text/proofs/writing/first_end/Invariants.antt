@@ -1,6 +1,0 @@
-use Rattle.std.proofs.Common.{◌≡◌, None}
-use Rattle.flowed_text.specs.Flow.{least, may_end}
-use Rattle.flowed_text.proofs.writing.first_end.Given as goal
-
-abbrev pub invariant-loop-i : goal.invariant-loop-i
-invariant-loop-i l = least (may_end l.bytes) l.i ≡ None

@@ -1,0 +1,5 @@
+pub mod ItemData
+pub mod Codes
+pub mod Items
+pub mod Searches
+pub mod Response

@@ -1,7 +1,0 @@
-use Rattle.std.proofs.Common.{◌≡◌, ◌-◌, length}
-use Rattle.imap_responses.specs.Sets.{ranges_at}
-use Rattle.imap_responses.proofs.SetLemmas.{after_ranges}
-use Rattle.imap_responses.proofs.sets.ranges.Given as goal
-
-abbrev pub invariant-loop : goal.invariant-loop
-invariant-loop l = after_ranges l.ranges.items (ranges_at (length l.bytes - l.counter) l.left) ≡ ranges_at (length l.bytes) l.bytes

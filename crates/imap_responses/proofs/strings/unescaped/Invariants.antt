@@ -1,7 +1,0 @@
-use Rattle.std.proofs.Common.{◌≡◌, ◌++◌, drop}
-use Rattle.imap_responses.specs.Strings.{unescape}
-use Rattle.imap_responses.proofs.QuotedLemmas.{unescape_on}
-use Rattle.imap_responses.proofs.strings.unescaped.Given as goal
-
-abbrev pub invariant-loop-byte : goal.invariant-loop-byte
-invariant-loop-byte l = l.out.items ++ unescape_on l.held (drop l.byte-index l.text) ≡ unescape l.text

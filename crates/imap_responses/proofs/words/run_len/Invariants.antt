@@ -1,7 +1,0 @@
-use Rattle.std.proofs.Common.{◌≡◌, ◌+◌, drop}
-use Rattle.std.specs.List.{prefix_len}
-use Rattle.imap_responses.specs.Words.{in_class}
-use Rattle.imap_responses.proofs.words.run_len.Given as goal
-
-abbrev pub invariant-loop-i : goal.invariant-loop-i
-invariant-loop-i l = l.i + prefix_len (in_class l.class) (drop l.i l.bytes) ≡ prefix_len (in_class l.class) l.bytes

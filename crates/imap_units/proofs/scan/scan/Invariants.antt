@@ -1,9 +1,0 @@
-use Rattle.std.proofs.Common.{◌≤◌, ◌-◌, length, take}
-use Rattle.imap_units.specs.Scans.{IsAt}
-use Rattle.imap_units.proofs.scan.scan.Given as goal
-
-abbrev pub invariant-loop-at : goal.invariant-loop-at
-invariant-loop-at l = record { within : l.at ≤ length l.unit; here : IsAt (take l.at l.unit) l.phase }
-
-abbrev pub decreases-loop-at : goal.decreases-loop-at
-decreases-loop-at l = length l.unit - l.at

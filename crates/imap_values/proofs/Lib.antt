@@ -1,0 +1,5 @@
+pub mod WordLemmas
+pub mod QuotedLemmas
+pub mod ValueLemmas
+pub mod SetLemmas
+pub mod MarkLemmas
