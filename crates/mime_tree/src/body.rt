@@ -4,7 +4,7 @@ ghost use Rattle.std.specs.List.{list_all};
 ghost use Rattle.header_words.specs.Fields.{is_blank};
 ghost use Rattle.mime_tree.specs.Body.{places, IsWithin, closes, delimits, begins, opens};
 
-use crate::lines::first_line;
+use header_words::first_line;
 use std::alloc::{AllocError, Global};
 
 /// A place in a text.
