@@ -1,5 +1,7 @@
-use crate::{Charset, Coding, charset_of, decode, encode_base64, encode_quoted, text_of};
 use std::test::Fail;
+use transfer_codings::{
+    Charset, Coding, charset_of, decode, encode_base64, encode_quoted, text_of,
+};
 
 // The test vectors of RFC 4648 §10.
 const VECTORS: [(&str, &str); 6] = [

@@ -1,4 +1,4 @@
-use crate::*;
+use flowed_text::{Memory, Para, read_flowed, write_flowed};
 use mail_values::Text;
 use std::alloc::Global;
 use std::test::Fail;

@@ -1,4 +1,4 @@
-use crate::*;
+use header_words::{Memory, decoded, decoded_words, fields, find_byte, first_line, trim, unfolded};
 use std::alloc::Global;
 use std::test::Fail;
 
@@ -66,31 +66,84 @@ fn finds_the_first_of_a_name(rt: HostRuntime) -> Result<(), Fail> {
     Ok(())
 }
 
-/// Values with encoded words: adjacent, within text and parentheses, folded, and what looks like one.
+/// Values with encoded words, and their texts.
+const WORDS: [(&[u8], &str); 16] = [
+    (
+        b"=?utf-8?Q?Caf=C3=A9_week?= at the =?iso-8859-1?b?6Q==?=!",
+        "Caf\u{E9} week at the \u{E9}!",
+    ),
+    (
+        b"=?utf-8?q?one?=\r\n =?utf-8?q?_two?= \t=?us-ascii*en?Q?=2E?=",
+        "one two.",
+    ),
+    (b"(=?iso-8859-1?q?a=E9?= b)", "(a\u{E9} b)"),
+    (
+        b"=?utf-8?q?_a_?= =?x-none?q?b?= =?utf-8?q??=",
+        "a  =?x-none?q?b?= =?utf-8?q??=",
+    ),
+    (
+        b"=?utf-8?q?\xff?= \"=?utf-8?q?c?=\"",
+        "=?utf-8?q?\u{FFFD}?= \"c\"",
+    ),
+    (
+        b"\"=?ISO-8859-1?Q?Fran=E7ois?=\" <f@x.example>",
+        "\"Fran\u{E7}ois\" <f@x.example>",
+    ),
+    (b"=?utf-8?q?a?==?utf-8?b?Yg==?=,=?utf-8?q?c?=", "ab,c"),
+    (b"x=?utf-8?q?a b?=y", "xa by"),
+    (b"=?utf-8?q?a?=  b  =?utf-8?q?c?=", "a  b  c"),
+    (b"=?utf-8?q?=C3?==?utf-8?q?=A9?=", "\u{FFFD}\u{FFFD}"),
+    (b"=?=?utf-8?q?a?=?=", "=?a?="),
+    (b"=?utf-8?q?=?utf-8?q?a?=?=", "=?utf-8?q?a?="),
+    (b"=?utf-8?b?YQ ==?= =?utf-8", "=?utf-8?b?YQ ==?= =?utf-8"),
+    (b"=?utf-8?q?a\x01b?=", "=?utf-8?q?a\u{1}b?="),
+    (
+        b"=?us-ascii?q?aaaaaaaaaaaaaaaaaaaaaaaaaaaaaaaaaaaaaaaaaaaaaaaaaaaaaaaaaaaaaaaaaaaaaaaa?=",
+        "aaaaaaaaaaaaaaaaaaaaaaaaaaaaaaaaaaaaaaaaaaaaaaaaaaaaaaaaaaaaaaaaaaaaaaaa",
+    ),
+    (b"", ""),
+];
+
 #[test]
 fn decodes_words(rt: HostRuntime) -> Result<(), Fail> {
     let alloc = rt.alloc();
-    for (message, want) in [
-        (
-            b"S: =?utf-8?Q?Caf=C3=A9_week?= at the =?iso-8859-1?b?6Q==?=!".as_slice(),
-            "S=Caf\u{E9} week at the =?iso-8859-1?b?6Q==?=!|59",
-        ),
-        (
-            b"S: =?utf-8?q?one?=\r\n =?utf-8?q?_two?= \t=?us-ascii*en?Q?=2E?=",
-            "S=one two.|60",
-        ),
-        (b"S: (=?iso-8859-1?q?a=E9?= b)", "S=(a\u{E9} b)|28"),
-        (
-            b"S: =?utf-8?q?_a_?= =?x-none?q?b?= =?utf-8?q??=",
-            "S=a  =?x-none?q?b?= =?utf-8?q??=|46",
-        ),
-        (
-            b"S: =?utf-8?q?\xff?= \"=?utf-8?q?c?=\"",
-            "S==?utf-8?q?\u{FFFD}?= \"=?utf-8?q?c?=\"|32",
-        ),
-    ] {
-        let text = shown(alloc, message)?;
+    for (value, want) in WORDS {
+        let mut message = Vec::from_slice(alloc, b"S: ")?;
+        message.extend_from_slice(value)?;
+        let read = fields(alloc, &message)?;
+        let text = decoded(alloc, &read.get(0))?;
         assert_eq!(rt; text.as_str(), want);
     }
+    Ok(())
+}
+
+#[test]
+fn decodes_words_of_a_text(rt: HostRuntime) -> Result<(), Fail> {
+    let alloc = rt.alloc();
+    for (text, want) in [
+        (b" =?utf-8?q?=C3=A9?=.txt ".as_slice(), " \u{E9}.txt "),
+        (b"caf\xc3\xa9 \xff", "caf\u{E9} \u{FFFD}"),
+        (b"", ""),
+    ] {
+        let decoded = decoded_words(alloc, text)?;
+        assert_eq!(rt; decoded.as_str(), want);
+    }
+    Ok(())
+}
+
+#[test]
+fn finds_lines_and_bytes(rt: HostRuntime) -> Result<(), Fail> {
+    for (text, want, size) in [
+        (b"a\r\nb".as_slice(), b"a".as_slice(), 3),
+        (b"a\nb", b"a", 2),
+        (b"a\r", b"a\r", 2),
+        (b"", b"", 0),
+    ] {
+        let (line, taken) = first_line(text);
+        assert_eq!(rt; line, want);
+        assert_eq!(rt; taken, size);
+    }
+    assert_eq!(rt; find_byte(b'b', b"abb"), 1);
+    assert_eq!(rt; find_byte(b'c', b"abb"), 3);
     Ok(())
 }

@@ -1,6 +1,6 @@
 //! Trees of malformed messages, beside what the definition computes of them (proofs/MalformedExamples.antt) and what a slow reading of
 //! the rules finds (bench/plain_mime_tree.py).
-use crate::*;
+use mime_tree::{Memory, Part, Section, Shown, best, part, tree};
 use std::alloc::Global;
 use std::test::Fail;
 
@@ -369,6 +369,18 @@ fn opens_to_its_limits(rt: HostRuntime) -> Result<(), Fail> {
         let text = counted(alloc, &message)?;
         assert_eq!(rt; text.as_str(), want, "{count}");
     }
+    Ok(())
+}
+
+#[test]
+fn lends_the_fields_of_a_message(rt: HostRuntime) -> Result<(), Fail> {
+    let alloc = rt.alloc();
+    let read = tree(alloc, b"Subject: a\nTo: b\n\nbody")?;
+    let fields = read.fields();
+    assert_eq!(rt; fields.len(), 2);
+    assert_eq!(rt; fields.body_at(), 18);
+    let field = fields.first("to").ok_or("no field")?;
+    assert_eq!(rt; field.name(), b"To".as_slice());
     Ok(())
 }
 
