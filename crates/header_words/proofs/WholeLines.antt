@@ -170,9 +170,9 @@ no_place p xs none =
     ]
 
 -- bytes that others begin with
-record IsFront (xs ys : List ℕ) : Type 0 where
-  back : List ℕ
-  is : xs ++ back ≡ ys
+pub record IsFront (xs ys : List ℕ) : Type 0 where
+  pub back : List ℕ
+  pub is : xs ++ back ≡ ys
 
 front_same : (xs : List ℕ) → IsFront xs xs
 front_same xs = record { back = []; is = append-nil xs }
@@ -190,7 +190,7 @@ front_trans xs ys zs p q = record { back = p.back ++ q.back; is = sym (append_as
 front_strip : (xs : List ℕ) → IsFront (strip_carriage_return xs) xs
 front_strip xs = front_if (slice_index xs (length xs - 1) == 13) (take (length xs - 1) xs) xs (front_take (length xs - 1) xs)
 
-front_first : (raw : List ℕ) → IsFront (first_text raw) raw
+pub front_first : (raw : List ℕ) → IsFront (first_text raw) raw
 front_first raw =
     front_if (nat_lt (position_or_len is_newline raw) (length raw)) (strip_carriage_return (take (position_or_len is_newline raw) raw)) raw
     (front_trans (strip_carriage_return (take (position_or_len is_newline raw) raw)) (take (position_or_len is_newline raw) raw) raw (front_strip (take (position_or_len is_newline raw) raw)) (front_take (position_or_len is_newline raw) raw))
