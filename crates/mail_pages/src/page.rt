@@ -9,13 +9,12 @@ ghost use Rattle.mail_pages.specs.ShowPage.{page_bytes};
 
 use crate::frame::{write_after, write_before};
 use crate::mail::write_mail;
-use header_words::fields;
 use mime_tree::{Section, Shown, Tree};
 use page_writer::{Memory, PageBytes, PageOut};
 use std::alloc::Global;
 
 /// The page of a message whose tree was read, and of which this is shown.
-#[tactic(auto, unfolding(page_writer::specs::Writing::literals, crate::specs::ShowPage::page_of, crate::specs::ShowPage::shown_of, crate::specs::ShowPage::page_bytes))]
+#[tactic(auto, unfolding(page_writer::specs::Writing::literals, crate::specs::ShowPage::page_of, crate::specs::ShowPage::shown_of, crate::specs::ShowPage::page_bytes, mime_tree::specs::Opening::tree_of))]
 pub fn message_page(
     alloc: Global,
     message: &[u8],
@@ -29,9 +28,8 @@ pub fn message_page(
     ensures reads { IfOk result (λ page. tokens_of_bytes page ≡ page_of message.now part.now) }
     ensures nested { OnOk result (IsNested (page_of message.now part.now)) }
 {
-    let header = fields(alloc, message)?;
     let mut out = PageOut::new(alloc);
-    write_before(alloc, &mut out, &header)?;
+    write_before(alloc, &mut out, tree.fields())?;
     write_mail(alloc, &mut out, tree, shown)?;
     write_after(alloc, &mut out, tree)?;
     Ok(out.finish())
