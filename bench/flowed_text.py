@@ -1,7 +1,7 @@
 #!/usr/bin/env python3
 """Times of flowed_text on 2.6 and 26 MB of clean and of hostile text.
 
-Build the program first, by `rt run -- check` in crates/bench. Then run this file, from anywhere, with the number of
+Build the program first, by `tools/build bench`. Then run this file, from anywhere, with the number of
 times that each is measured (3 by default). A row has the least of those times for each size, in nanoseconds for each byte
 of input, and the memory that the program holds for each byte of the larger input, of which the input itself is one. Where
 the larger input takes more than twice the time for each byte, the row says so, and the exit status is 1.
@@ -13,7 +13,7 @@ import tempfile
 
 LARGE = 26_000_000
 HERE = os.path.dirname(os.path.abspath(__file__))
-PROGRAM = os.path.join(HERE, "..", "crates", "bench", "out", "bench")
+PROGRAM = os.path.join(HERE, "..", "bin", "bench")
 
 PROSE = "the quick brown fox jumps over the lazy dog and over the dog again it jumps "
 READ = {

@@ -1,7 +1,7 @@
 #!/usr/bin/env python3
 """Times imap_responses on a server's bytes, beside Python's imaplib reading the same bytes from memory in the same run.
 
-Build the program first, by `rt run -- check` in crates/bench. Then run this file, from anywhere, with the number of times that each
+Build the program first, by `tools/build bench`. Then run this file, from anywhere, with the number of times that each
 is measured (5 by default). Each figure is the least of those times in milliseconds, of the reading alone. `bench` reads each
 response with all its items; imaplib splits lines and literals, and leaves the items as text. On FETCH lines the program is to be
 5 times as fast as imaplib; a literal fed one byte at a time is to take at most 20 times the time of one fed whole.
@@ -14,7 +14,7 @@ import sys
 import time
 
 HERE = os.path.dirname(os.path.abspath(__file__))
-PROGRAM = os.path.join(HERE, "..", "crates", "bench", "out", "bench")
+PROGRAM = os.path.join(HERE, "..", "bin", "bench")
 LITERAL = 33_554_432
 WHOLE = "responses"
 
