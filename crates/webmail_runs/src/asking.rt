@@ -40,7 +40,7 @@ fn read_three(word: &str, option: &str, spelling: &str) -> Option<Ask>
     if word != "show" || option != "--part" {
         return None;
     }
-    let section = Section::read(spelling)?;
+    let section = Section::parse(spelling)?;
     Some(Ask {
         part: Some(section),
     })
