@@ -8,7 +8,7 @@ fn text_of(alloc: Global, bytes: &[u8]) -> Result<String, Memory> {
     String::from_str(alloc, &text)
 }
 
-/// The words, with `|` behind each.
+/// The words, with `|` after each.
 fn words_of(alloc: Global, words: &Slices) -> Result<String, Memory> {
     let mut text = String::new(alloc);
     for word in words.as_slice() {
@@ -128,7 +128,7 @@ fn told_response(alloc: Global, response: &Response) -> Result<String, Memory> {
     }
 }
 
-/// What a unit says, as a line of text.
+/// The response of a unit as a line of text.
 fn told(alloc: Global, unit: &str) -> Result<String, Memory> {
     match read_response(alloc, unit.as_bytes())? {
         None => String::from_str(alloc, "none"),
