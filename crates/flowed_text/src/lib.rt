@@ -16,6 +16,3 @@ pub struct Para {
     pub depth: u32,
     pub text: Text,
 }
-
-#[cfg(test)]
-mod tests;

@@ -17,6 +17,3 @@ pub use laws::{
     washed_is_style, washing_is_idempotent,
 };
 pub use std::alloc::AllocError as Memory;
-
-#[cfg(test)]
-mod tests;
