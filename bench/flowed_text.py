@@ -1,7 +1,7 @@
 #!/usr/bin/env python3
 """Times of flowed_text on 2.6 and 26 MB of clean and of hostile text.
 
-Build the program first, by `rt run </dev/null` in crates/flowed_bench. Then run this file, from anywhere, with the number of
+Build the program first, by `tools/build bench`. Then run this file, from anywhere, with the number of
 times that each is measured (3 by default). A row has the least of those times for each size, in nanoseconds for each byte
 of input, and the memory that the program holds for each byte of the larger input, of which the input itself is one. Where
 the larger input takes more than twice the time for each byte, the row says so, and the exit status is 1.
@@ -13,7 +13,7 @@ import tempfile
 
 LARGE = 26_000_000
 HERE = os.path.dirname(os.path.abspath(__file__))
-PROGRAM = os.path.join(HERE, "..", "crates", "flowed_bench", "out", "flowed_bench")
+PROGRAM = os.path.join(HERE, "..", "bin", "bench")
 
 PROSE = "the quick brown fox jumps over the lazy dog and over the dog again it jumps "
 READ = {
@@ -41,21 +41,21 @@ WRITE = {
     "From": b"From ",
     "accents": "\u00e9\u00e9\u00e9 ".encode(),
 }
-# write-quoted writes at a depth of 80, so that every word stands on a line of its own
+# write-flowed-quoted writes at a depth of 80, so that every word stands on a line of its own
 QUOTED = {shape: WRITE[shape] for shape in ("clean", "spaces", "one word")}
-WORKS = {"read": READ, "read-del-sp": READ, "write": WRITE, "write-quoted": QUOTED}
+WORKS = {"read-flowed": READ, "read-flowed-del-sp": READ, "write-flowed": WRITE, "write-flowed-quoted": QUOTED}
 
 
 def seconds(work, path, times):
     """The least seconds of a call, and the most bytes that the program held."""
     with open(path, "rb") as source:
         program = subprocess.Popen([PROGRAM, work, str(times)], stdin=source, stdout=subprocess.DEVNULL, stderr=subprocess.PIPE)
-        lines = program.stderr.read().split()
+        lines = program.stderr.read().splitlines()
         _, status, usage = os.wait4(program.pid, 0)
     program.returncode = os.waitstatus_to_exitcode(status)
     if program.returncode != 0:
         sys.exit(f"{work}: status {program.returncode}")
-    return min(map(int, lines)) / 1e6, usage.ru_maxrss * 1024
+    return min(int(line.split()[0]) for line in lines) / 1e6, usage.ru_maxrss * 1024
 
 
 def measure(work, piece, size, folder, times):

@@ -1,7 +1,7 @@
 #!/usr/bin/env python3
 """Times of the scanner on a newsletter of 1 MB and on hostile texts of 8 to 35 MB, beside html5lib's tokenizer and `grep -c '<'`.
 
-Build the program first, by `rt run < stdin` in crates/tokens_bench. Then run this file, from anywhere, and give it the number of times
+Build the program first, by `tools/build bench`. Then run this file, from anywhere, and give it the number of times
 that each text is measured (5 by default). html5lib is a package of most systems; without it that figure is left out. A figure is the
 least of those times, in nanoseconds for each byte: of the spans alone, and with the token of each. How many times the newsletter's a
 text's time is, and html5lib's, is the median of pairs that are measured one right after the other, since a machine's pace changes.
@@ -28,7 +28,7 @@ except ImportError:
 LARGE = 26_000_000
 MANY = 4_000_000
 HERE = os.path.dirname(os.path.abspath(__file__))
-PROGRAM = os.path.join(HERE, "..", "crates", "tokens_bench", "out", "tokens_bench")
+PROGRAM = os.path.join(HERE, "..", "bin", "bench")
 
 ROW = (
     '<tr><td align="left" valign="top" width="300" style="padding:10px 20px;font-family:Arial,sans-serif;color:#333333">'
@@ -104,7 +104,7 @@ def seconds_of(work, path, times):
     """The least of the times that the program takes in one run, and what it counts."""
     with open(path, "rb") as source:
         done = subprocess.run([PROGRAM, work, str(times)], stdin=source, capture_output=True, check=True)
-    return min(int(line) for line in done.stderr.split()) / 1e6, done.stdout.decode().strip()
+    return min(int(line.split()[0]) for line in done.stderr.splitlines()) / 1e6, done.stdout.decode().strip()
 
 
 def grep_seconds(path):

@@ -1,8 +1,8 @@
 #!/usr/bin/env python3
 """Times imap_responses on a server's bytes, beside Python's imaplib reading the same bytes from memory in the same run.
 
-Build the program first, by `rt run <stdin` in crates/imap_bench. Then run this file, from anywhere, with the number of times that each
-is measured (5 by default). Each figure is the least of those times in milliseconds, of the reading alone. imap_bench reads each
+Build the program first, by `tools/build bench`. Then run this file, from anywhere, with the number of times that each
+is measured (5 by default). Each figure is the least of those times in milliseconds, of the reading alone. `bench` reads each
 response with all its items; imaplib splits lines and literals, and leaves the items as text. On FETCH lines the program is to be
 5 times as fast as imaplib; a literal fed one byte at a time is to take at most 20 times the time of one fed whole.
 """
@@ -14,9 +14,9 @@ import sys
 import time
 
 HERE = os.path.dirname(os.path.abspath(__file__))
-PROGRAM = os.path.join(HERE, "..", "crates", "imap_bench", "out", "imap_bench")
+PROGRAM = os.path.join(HERE, "..", "bin", "bench")
 LITERAL = 33_554_432
-WHOLE = 0
+WHOLE = "responses"
 
 
 def fetch_lines(count=100_000, length=300):
@@ -59,7 +59,9 @@ def sizes_of_nothing(count=5_000_000):
 
 
 def ours(stream, piece, times):
-    done = subprocess.run([PROGRAM, str(piece), str(times)], input=stream, capture_output=True, check=True)
+    """The least milliseconds, and what was read, if the stream comes in pieces of that many bytes."""
+    work = piece if piece == WHOLE else f"{WHOLE}-{piece}"
+    done = subprocess.run([PROGRAM, work, str(times)], input=stream, capture_output=True, check=True)
     figures = [int(row.split()[0]) / 1000 for row in done.stderr.split(b"\n") if row]
     return min(figures), done.stdout.decode().replace("\n", ", ").strip(", ")
 

@@ -1,7 +1,7 @@
 #!/usr/bin/env python3
 """Compares mime_tree with its definition on malformed messages, and times it beside Python's email parser.
 
-Build the program first, by `rt run <stdin` in crates/mime_bench. Then run this file, from anywhere, with the number of
+Build the program first, by `tools/build bench`. Then run this file, from anywhere, with the number of
 times that each is measured (5 by default). First come the malformed messages and 3,000 random ones: the program must
 print what plain_mime_tree.py prints, which reads the definition as plainly as it can. Then come the times: each figure is
 the least of those times in milliseconds, of the call alone. Python's parser reads bytes that are in memory, as the program
@@ -18,7 +18,7 @@ import time
 import plain_mime_tree
 
 HERE = os.path.dirname(os.path.abspath(__file__))
-PROGRAM = os.path.join(HERE, "..", "crates", "mime_bench", "out", "mime_bench")
+PROGRAM = os.path.join(HERE, "..", "bin", "bench")
 SIZE = 26_000_000
 
 
@@ -102,7 +102,7 @@ def random_messages(count):
 
 
 def run(message, times=0):
-    done = subprocess.run([PROGRAM, str(times)], input=message, capture_output=True, check=True)
+    done = subprocess.run([PROGRAM, "tree", str(times)], input=message, capture_output=True, check=True)
     return done.stdout, [int(row.split()[0]) for row in done.stderr.split(b"\n") if row]
 
 

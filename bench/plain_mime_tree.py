@@ -2,7 +2,7 @@
 """The tree of a message by its definition, as plainly as it can be written: slow, and meant to be read.
 
 It is a second reading of the rules that crates/mime_tree proves its code against. bench/mime_tree.py compares the two on
-malformed messages. `list_parts` gives what crates/mime_bench prints.
+malformed messages. `list_parts` gives what `bench tree` prints.
 """
 import re
 from collections import namedtuple

@@ -1,7 +1,7 @@
 #!/usr/bin/env python3
 """Times of transfer_codings on 26 MB of clean and of hostile input, beside base64(1) and binascii.
 
-Build the program first, by `rt run -- encode-base64 </dev/null` in crates/codings_bench. Then run this file, from
+Build the program first, by `tools/build bench`. Then run this file, from
 anywhere, with the number of times that each is measured (7 by default). Each figure is the least of those times, in
 nanoseconds for each byte of input. 'call' is the call alone, its memory included; 'process' is the whole program, from
 its start to its end, with the reading of a file and the writing to /dev/null. 'streamed' is the same of a program that
@@ -21,7 +21,7 @@ import time
 
 SIZE = 26_000_000
 HERE = os.path.dirname(os.path.abspath(__file__))
-PROGRAM = os.path.join(HERE, "..", "crates", "codings_bench", "out", "codings_bench")
+PROGRAM = os.path.join(HERE, "..", "bin", "bench")
 
 
 def cut(piece):
@@ -98,7 +98,7 @@ def call_seconds(work, path, times):
     with open(path, "rb") as source:
         words = [PROGRAM, work, str(times)]
         done = subprocess.run(words, stdin=source, stdout=subprocess.DEVNULL, stderr=subprocess.PIPE, check=True)
-    return min(int(line) for line in done.stderr.split()) / 1e6
+    return min(int(line.split()[0]) for line in done.stderr.splitlines()) / 1e6
 
 
 def python_seconds(call, data, times):

@@ -1,7 +1,6 @@
-pub mod Cuts
 pub mod Examples
 pub mod FirstLine
-pub mod RunLemmas
+pub mod ItemLemmas
 pub mod WholeLines
 pub mod Scan
 pub mod Unfolding

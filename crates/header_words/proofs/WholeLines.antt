@@ -9,14 +9,14 @@ use Rattle.std.proofs.Math.Seq.{take-append_seam}
 use Rattle.std.proofs.lemmas.Slice.Eq.{bytes_eq-Decides}
 use Rattle.std.proofs.Math.ListN.{get_or-eq_default}
 use Rattle.std.specs.Str.Lines.{lines, strip_carriage_return}
-use Rattle.std.proofs.lemmas.Bool.{cases_lt, cases_Bool, ne_eqb, eqb-false, lt-ltb}
+use Rattle.std.proofs.lemmas.Bool.{cases_lt, cases_Bool, ne_eqb, eqb-false, eq-eqb, lt-ltb}
 use Rattle.std.proofs.lemmas.List.{append-nil, length-take-le, get_or-drop, drop-append-le, get_or_default, length-map, take-append-le, take-append-drop, drop_all, take_all}
 use Rattle.std.proofs.lemmas.List.Elements.{filter-append}
 use Rattle.std.proofs.lemmas.List.Folds.{prefix_len-append}
 use Rattle.std.proofs.lemmas.List.Sums.{prefix_len-le-length}
 use Rattle.header_words.specs.Lines.{is_newline, first_text, first_size}
 use Rattle.header_words.specs.Fields.{FieldValue, fields_of, own_lines, is_continuation, is_colon, name_of, has_name}
-use Rattle.header_words.specs.Places.{field_of_lines, raw_field, field_between, fields_at, Rise}
+use Rattle.header_words.specs.Places.{field_of_lines, raw_field, field_between, fields_at, Rise, is_alike}
 use Rattle.header_words.proofs.FirstLine.{lines_step, first_text_found, first_size_last}
 
 abbrev record_of : List ℕ → List (List ℕ) → FieldValue
@@ -170,9 +170,9 @@ no_place p xs none =
     ]
 
 -- bytes that others begin with
-record IsFront (xs ys : List ℕ) : Type 0 where
-  back : List ℕ
-  is : xs ++ back ≡ ys
+pub record IsFront (xs ys : List ℕ) : Type 0 where
+  pub back : List ℕ
+  pub is : xs ++ back ≡ ys
 
 front_same : (xs : List ℕ) → IsFront xs xs
 front_same xs = record { back = []; is = append-nil xs }
@@ -190,7 +190,7 @@ front_trans xs ys zs p q = record { back = p.back ++ q.back; is = sym (append_as
 front_strip : (xs : List ℕ) → IsFront (strip_carriage_return xs) xs
 front_strip xs = front_if (slice_index xs (length xs - 1) == 13) (take (length xs - 1) xs) xs (front_take (length xs - 1) xs)
 
-front_first : (raw : List ℕ) → IsFront (first_text raw) raw
+pub front_first : (raw : List ℕ) → IsFront (first_text raw) raw
 front_first raw =
     front_if (nat_lt (position_or_len is_newline raw) (length raw)) (strip_carriage_return (take (position_or_len is_newline raw) raw)) raw
     (front_trans (strip_carriage_return (take (position_or_len is_newline raw) raw)) (take (position_or_len is_newline raw) raw) raw (front_strip (take (position_or_len is_newline raw) raw)) (front_take (position_or_len is_newline raw) raw))
@@ -198,21 +198,22 @@ front_first raw =
 front_name : (raw : List ℕ) → IsFront (name_of (first_text raw)) raw
 front_name raw = front_trans (name_of (first_text raw)) (first_text raw) raw (front_take (position_or_len is_colon (first_text raw)) (first_text raw)) (front_first raw)
 
-ignored_case : (xs ys : List ℕ) → str_eq_ignore_ascii_case xs ys ≡ true → length xs ≡ length ys
-ignored_case xs ys e =
-    let same : str_to_ascii_lowercase xs ≡ str_to_ascii_lowercase ys = (bytes_eq-Decides (str_to_ascii_lowercase xs) (str_to_ascii_lowercase ys)).0 e in
-    sym (length-map xs to_ascii_lowercase) ∙ ap length same ∙ length-map ys to_ascii_lowercase
+alike_front : (written back name raw : List ℕ) → written ++ back ≡ raw → str_to_ascii_lowercase written ≡ str_to_ascii_lowercase name → is_alike raw name ≡ true
+alike_front written back name [] e f = refl
+alike_front written back [] (b ∷ raw) e f = refl
+alike_front [] back (c ∷ name) (b ∷ raw) e f = absurd (cc)
+alike_front (w ∷ written) back (c ∷ name) (b ∷ raw) e f =
+    let first : w ≡ b = cc in
+    let same : to_ascii_lowercase w ≡ to_ascii_lowercase c = cc in
+    eq-eqb (to_ascii_lowercase b) (to_ascii_lowercase c) (ap to_ascii_lowercase (sym first) ∙ same)
 
--- bytes whose field has a name begin with it
-pub begins_with_name : (raw name : List ℕ) → str_eq_ignore_ascii_case (raw_field raw).name name ≡ true → str_eq_ignore_ascii_case (take (min (length name) (length raw)) raw) name ≡ true
-begins_with_name raw name e =
+-- a field of a name begins alike
+pub alike_named : (raw name : List ℕ) → str_eq_ignore_ascii_case (raw_field raw).name name ≡ true → is_alike raw name ≡ true
+alike_named raw name e =
     let written = (raw_field raw).name in
     let front : IsFront written raw = subst (λ (n : List ℕ). IsFront n raw) (sym (raw_name raw)) (front_name raw) in
-    let size : length written ≡ length name = ignored_case written name e in
-    let few : length written ≤ length raw = omega (arith, length-append written front.back, ap length front.is) in
-    let least : min (length name) (length raw) ≡ length written = omega arith in
-    let taken : take (min (length name) (length raw)) raw ≡ written = ap (λ n. take n raw) least ∙ ap (take (length written)) (sym front.is) ∙ take-append_seam written front.back in
-    ap (λ t. str_eq_ignore_ascii_case t name) taken ∙ e
+    let same : str_to_ascii_lowercase written ≡ str_to_ascii_lowercase name = (bytes_eq-Decides (str_to_ascii_lowercase written) (str_to_ascii_lowercase name)).0 e in
+    alike_front written front.back name raw front.is same
 
 -- ---- the field of a number
 
@@ -248,13 +249,13 @@ first_at p [] x i e = absurd (cc)
 first_at p (y ∷ ys) x zero e = let same : y ≡ x = cc in ap (λ z. cond (p z) (Some z) (find p ys)) same
 first_at p (y ∷ ys) x (suc i) e = first_at p ys x i e
 
--- no field has a name with which its bytes don't begin
-pub not_named : (raw name : List ℕ) (f : FieldValue) (front : Bool) → raw_field raw ≡ f → front ≡ false → front ≡ str_eq_ignore_ascii_case (take (min (length name) (length raw)) raw) name → front ≡ str_eq_ignore_ascii_case f.name name
-not_named raw name f front is other at =
+-- no field has a name that does not begin alike
+pub not_named : (raw name : List ℕ) (f : FieldValue) (alike : Bool) → raw_field raw ≡ f → alike ≡ false → alike ≡ is_alike raw name → alike ≡ str_eq_ignore_ascii_case f.name name
+not_named raw name f alike is other at =
     elim (cases_Bool (str_eq_ignore_ascii_case f.name name)) [
       | inl same_name ↦
           let same : str_eq_ignore_ascii_case (raw_field raw).name name ≡ true = ap (λ k. str_eq_ignore_ascii_case k.name name) is ∙ same_name in
-          let begins = begins_with_name raw name same in
+          let begins = alike_named raw name same in
           let both : false ≡ true = sym other ∙ at ∙ begins in
           absurd (cc)
       | inr differs ↦ other ∙ sym differs

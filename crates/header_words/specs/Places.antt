@@ -1,5 +1,6 @@
 -- Fields as the places of a message at which they begin.
-use Rattle.std.specs.Prelude.{ℕ, ◌+◌, ◌-◌, ◌<◌, List, [], ◌∷◌, ◌++◌, if◌then◌else◌, length, take, drop, slice_index}
+use Rattle.std.specs.Char.{to_ascii_lowercase}
+use Rattle.std.specs.Prelude.{ℕ, Bool, true, ◌+◌, ◌-◌, ◌<◌, ◌==◌, List, [], ◌∷◌, ◌++◌, if◌then◌else◌, length, take, drop, slice_index}
 use Rattle.std.specs.Str.Lines.{lines}
 use Rattle.header_words.specs.Fields.{FieldValue, Header, field_of, begins_field}
 
@@ -33,3 +34,12 @@ header_at bytes starts end body = record { fields = fields_at bytes starts end; 
 -- the places with that of one more line
 abbrev pub starts_with : List ℕ → List ℕ → ℕ → List ℕ
 starts_with starts line at = if begins_field line then starts ++ at ∷ [] else starts
+
+-- the first bytes of a field and of a name are the same letter, in either case
+abbrev pub is_alike_first : ℕ → List ℕ → Bool
+is_alike_first first [] = true
+is_alike_first first (letter ∷ name) = to_ascii_lowercase first == to_ascii_lowercase letter
+
+abbrev pub is_alike : List ℕ → List ℕ → Bool
+is_alike [] name = true
+is_alike (first ∷ raw) name = is_alike_first first name

@@ -1,9 +1,10 @@
 //! A header: its fields, and where the body begins.
-ghost use Rattle.std.specs.Prelude.{◌≡◌, ◌<◌, ◌≤◌, ◌+◌, ◌-◌, ◌==◌, length, slice_index_or, take, drop, min, Some};
+ghost use Rattle.std.specs.Prelude.{◌≡◌, ◌<◌, ◌≤◌, ◌+◌, ◌-◌, ◌==◌, length, slice_index_or, take, drop, Some};
 ghost use Rattle.std.specs.List.{slice_get};
-ghost use Rattle.std.specs.Str.{str_eq_ignore_ascii_case};
+ghost use Rattle.std.specs.Char.{to_ascii_lowercase};
+ghost use Rattle.header_words.specs.Places.{is_alike, is_alike_first};
 
-use crate::bytes::{colon_of, first_line};
+use crate::lines::{colon_of, first_line};
 use std::marker::Model;
 
 /// A field of a message, which lends its lines.
@@ -73,16 +74,40 @@ impl<'a> Field<'a> {
     pub fn is_named(&self, name: &str) -> bool
         ensures { result ≡ has_name name.now self.now }
     {
-        begins_with(self.raw, name) && self.name().eq_ignore_ascii_case(name.as_bytes())
+        is_alike(self.raw, name.as_bytes()) && self.name().eq_ignore_ascii_case(name.as_bytes())
     }
 }
 
-/// Whether bytes begin with a name; a look that tells most fields from a name without reading their line.
-fn begins_with(raw: &[u8], name: &str) -> bool
-    ensures { result ≡ str_eq_ignore_ascii_case (take (min (length name.now) (length raw.now)) raw.now) name.now }
+/// Returns whether the first bytes of a field and of a name are the same letter, which rules out most fields without reading
+/// their line.
+fn is_alike(raw: &[u8], name: &[u8]) -> bool
+    ensures { result ≡ is_alike raw.now name.now }
 {
-    let size = name.len().min(raw.len());
-    raw[..size].eq_ignore_ascii_case(name.as_bytes())
+    match raw {
+        [first, ..] => is_alike_first(*first, name),
+        [] => true,
+    }
+}
+
+fn is_alike_first(first: u8, name: &[u8]) -> bool
+    ensures { result ≡ is_alike_first first name.now }
+{
+    match name {
+        [letter, ..] => lower(first) == lower(*letter),
+        [] => true,
+    }
+}
+
+fn lower(byte: u8) -> u8
+    ensures { result ≡ to_ascii_lowercase byte }
+{
+    if byte < 65 {
+        byte
+    } else if byte < 91 {
+        byte + 32
+    } else {
+        byte
+    }
 }
 
 fn between(bytes: &[u8], start: usize, end: usize) -> &[u8]

@@ -3,8 +3,8 @@ ghost use Rattle.std.specs.Prelude.{◌≡◌, ◌≤◌, length, IfOk, OnOk};
 ghost use Rattle.header_words.specs.Fields.{header_of};
 ghost use Rattle.header_words.specs.Places.{starts_with};
 
-use crate::bytes::{first_line, is_field};
 use crate::header::Fields;
+use crate::lines::{first_line, is_field};
 use std::alloc::{AllocError, Global};
 
 /// The header fields of a message, up to the first empty line.

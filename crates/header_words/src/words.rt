@@ -1,22 +1,20 @@
 //! Encoded words (RFC 2047).
-ghost use Rattle.std.specs.Prelude.{◌≡◌, ◌<◌, ◌≤◌, ◌∷◌, ◌++◌, [], IfOk, OnOk, IfSome, OnSome, IfNone, None, length, string_bytes};
-ghost use Rattle.std.specs.List.{before_first, after_first, position_or_len, slice_split, list_all};
-ghost use Rattle.header_words.specs.EncodedWords.{coding_named, without_language, is_star, is_text, is_printable, is_question, word_of, word_of_parts, spaces_written, space_written, word_bytes, word_text};
+ghost use Rattle.std.specs.Prelude.{◌≡◌, ◌≤◌, ◌++◌, IfOk, OnOk, length, string_bytes};
+ghost use Rattle.std.specs.List.{before_first, after_first, prefix_len};
+ghost use Rattle.header_words.specs.EncodedWords.{coding_of_letter, without_language, is_star, is_printable, is_question, is_text_byte, text_len, word_with, word_named, word_at, blanks_written, blank_written, word_bytes, word_text};
 
-use crate::bytes::place_of;
+use crate::lines::find_byte;
 use std::alloc::{AllocError, Global};
 use std::marker::Model;
 use transfer_codings::{Charset, Coding, charset_of, decode, text_of};
 
-/// The most bytes of an encoded word.
-const MOST: usize = 75;
-
-/// An encoded word in a charset and a coding that are read.
+/// An encoded word in a charset and a coding that are read, and the bytes that follow it.
 #[derive(Drop)]
 pub struct Word<'a> {
     charset: Charset,
     coding: Coding,
     text: &'a [u8],
+    after: &'a [u8],
 }
 
 impl<'a> Model for Word<'a> {
@@ -24,35 +22,29 @@ impl<'a> Model for Word<'a> {
 
     ghost Value = { EncodedWord };
 
-    ghost view = { λ w. record { charset = w.charset; coding = w.coding; text = w.text.now } };
-}
-
-/// The parts of a run between its question marks, where there are four of these.
-#[derive(Drop)]
-struct Parts<'a> {
-    first: &'a [u8],
-    charset: &'a [u8],
-    coding: &'a [u8],
-    text: &'a [u8],
-    last: &'a [u8],
+    ghost view = { λ w. record { charset = w.charset; coding = w.coding; text = w.text.now; after = w.after.now } };
 }
 
 impl<'a> Word<'a> {
-    /// The word that a run of bytes is, if it is one.
-    #[tactic(auto, unfolding(crate::specs::EncodedWords::word_of))]
-    pub fn read(run: &'a [u8]) -> Option<Self>
-        ensures { result ≡ word_of run.now }
+    /// Returns the word that bytes begin with.
+    #[tactic(auto, unfolding(crate::specs::EncodedWords::word_at))]
+    pub fn read(bytes: &'a [u8]) -> Option<Self>
+        ensures { result ≡ word_at bytes.now }
     {
-        if run.len() > MOST {
-            return None;
-        }
-        match split(run) {
-            Some(parts) => word_with(&parts),
-            None => None,
+        match bytes {
+            [b'=', b'?', rest @ ..] => word_named(before_question(rest), after_question(rest)),
+            _ => None,
         }
     }
 
-    /// What the word says.
+    /// Returns the bytes that follow the word.
+    pub fn after(&self) -> &'a [u8]
+        ensures { result.now ≡ self.now.after }
+    {
+        self.after
+    }
+
+    /// Returns the text of the word.
     #[tactic(auto, unfolding(crate::specs::EncodedWords::word_text))]
     pub fn text(&self, alloc: Global) -> Result<String, AllocError>
         ensures { IfOk result (λ text. string_bytes text ≡ word_text self.now) }
@@ -62,98 +54,105 @@ impl<'a> Word<'a> {
     }
 }
 
-fn word_with<'a>(parts: &Parts<'a>) -> Option<Word<'a>>
-    ensures { result ≡ word_of_parts (parts.now.first.now ∷ parts.now.charset.now ∷ parts.now.coding.now ∷ parts.now.text.now ∷ parts.now.last.now ∷ []) }
+fn before_question(bytes: &[u8]) -> &[u8]
+    ensures { result.now ≡ before_first is_question bytes.now }
 {
-    if parts.first != b"=".as_slice()
-        || parts.last != b"=".as_slice()
-        || !is_word_text(parts.text)
-    {
-        return None;
+    &bytes[..find_byte(b'?', bytes)]
+}
+
+fn after_question(bytes: &[u8]) -> &[u8]
+    ensures { result.now ≡ after_first is_question bytes.now }
+{
+    let at = find_byte(b'?', bytes);
+    if at < bytes.len() {
+        &bytes[at + 1..]
+    } else {
+        &[]
     }
-    match (
-        charset_of(plain_name(parts.charset)),
-        coding_of(parts.coding),
-    ) {
-        (Some(charset), Some(coding)) => Some(Word {
+}
+
+/// Returns the word of a charset's name whose letter, `?` and text come next.
+fn word_named<'a>(name: &[u8], bytes: &'a [u8]) -> Option<Word<'a>>
+    ensures { result ≡ word_named name.now bytes.now }
+{
+    match bytes {
+        [letter, b'?', bytes @ ..] => {
+            let coding = coding_of(*letter);
+            word_with(charset_of(without_language(name)), coding, bytes)
+        }
+        _ => None,
+    }
+}
+
+/// Returns the word of a charset and a coding whose text comes next.
+fn word_with(charset: Option<Charset>, coding: Option<Coding>, bytes: &[u8]) -> Option<Word<'_>>
+    ensures { result ≡ word_with charset coding bytes.now }
+{
+    let charset = charset?;
+    let coding = coding?;
+    let len = text_len(coding, bytes);
+    match &bytes[len..] {
+        [b'?', b'=', after @ ..] if len > 0 => Some(Word {
             charset,
             coding,
-            text: parts.text,
+            text: &bytes[..len],
+            after,
         }),
         _ => None,
     }
 }
 
-fn split(run: &[u8]) -> Option<Parts<'_>>
-    ensures five { IfSome result (λ p. slice_split is_question run.now ≡ p.first.now ∷ p.charset.now ∷ p.coding.now ∷ p.text.now ∷ p.last.now ∷ []) }
-    ensures other { IfNone result (word_of_parts (slice_split is_question run.now) ≡ None) }
+/// Returns how many characters of a text come next.
+fn text_len(coding: Coding, bytes: &[u8]) -> usize
+    ensures equals { result ≡ text_len coding bytes.now }
+    ensures within { result ≤ length bytes.now }
 {
-    let (first, rest) = cut(run)?;
-    let (charset, rest) = cut(rest)?;
-    let (coding, rest) = cut(rest)?;
-    let (text, last) = cut(rest)?;
-    match cut(last) {
-        Some(_) => None,
-        None => Some(Parts {
-            first,
-            charset,
-            coding,
-            text,
-            last,
-        }),
+    let mut len = 0;
+    while len < bytes.len() && is_text_byte(coding, bytes[len]) {
+        len += 1;
+    }
+    len
+}
+
+fn is_text_byte(coding: Coding, byte: u8) -> bool
+    ensures { result ≡ is_text_byte coding byte }
+{
+    match coding {
+        Coding::Quoted => is_printable(byte) || byte == b' ' || byte == b'\t',
+        Coding::Base64 | Coding::Plain => is_printable(byte),
     }
 }
 
-/// What stands before the first question mark, and after it.
-fn cut(bytes: &[u8]) -> Option<(&[u8], &[u8])>
-    ensures cut { IfSome result (λ p. slice_split is_question bytes.now ≡ p.0.now ∷ slice_split is_question p.1.now) }
-    ensures whole { IfNone result (slice_split is_question bytes.now ≡ bytes.now ∷ []) }
+fn is_printable(byte: u8) -> bool
+    ensures { result ≡ is_printable byte }
 {
-    match place_of(b'?', bytes) {
-        Some(at) => Some((&bytes[..at], &bytes[at + 1..])),
-        None => None,
-    }
+    byte >= 33 && byte <= 126 && byte != b'?'
 }
 
-/// The charset's name without the language that may follow it.
-fn plain_name(name: &[u8]) -> &[u8]
+/// Returns the charset's name without the language that may follow it.
+fn without_language(name: &[u8]) -> &[u8]
     ensures { result.now ≡ without_language name.now }
 {
-    match place_of(b'*', name) {
-        Some(at) => &name[..at],
-        None => name,
-    }
+    &name[..find_byte(b'*', name)]
 }
 
-fn coding_of(name: &[u8]) -> Option<Coding>
-    ensures { result ≡ coding_named name.now }
+fn coding_of(letter: u8) -> Option<Coding>
+    ensures { result ≡ coding_of_letter letter }
 {
-    match name {
-        [b'B' | b'b'] => Some(Coding::Base64),
-        [b'Q' | b'q'] => Some(Coding::Quoted),
+    match letter {
+        b'B' | b'b' => Some(Coding::Base64),
+        b'Q' | b'q' => Some(Coding::Quoted),
         _ => None,
     }
 }
 
-fn is_word_text(text: &[u8]) -> bool
-    ensures { result ≡ is_text text.now }
-{
-    !text.is_empty() && is_printed(text)
-}
-
-fn is_printed(text: &[u8]) -> bool
-    ensures { result ≡ list_all is_printable text.now }
-{
-    text.iter().all(|b| *b >= 33 && *b <= 126)
-}
-
-/// The bytes that the text of a word stands for.
+/// Decodes the text of a word into bytes.
 fn bytes_of(alloc: Global, coding: Coding, text: &[u8]) -> Result<Vec<u8>, AllocError>
     ensures { IfOk result (λ bytes. bytes.items ≡ word_bytes coding text.now) }
 {
     match coding {
         Coding::Quoted => {
-            let written = with_spaces(alloc, text)?;
+            let written = write_blanks(alloc, text)?;
             decode(alloc, Coding::Quoted, &written)
         }
         Coding::Base64 => decode(alloc, Coding::Base64, text),
@@ -161,24 +160,26 @@ fn bytes_of(alloc: Global, coding: Coding, text: &[u8]) -> Result<Vec<u8>, Alloc
     }
 }
 
-/// The text with `=20` for each `_`.
-fn with_spaces(alloc: Global, text: &[u8]) -> Result<Vec<u8>, AllocError>
-    ensures { IfOk result (λ written. written.items ≡ spaces_written text.now) }
+/// Writes a Q text as quoted-printable: `_` and blanks are escaped.
+fn write_blanks(alloc: Global, text: &[u8]) -> Result<Vec<u8>, AllocError>
+    ensures { IfOk result (λ written. written.items ≡ blanks_written text.now) }
 {
-    let mut written = Vec::new(alloc);
+    let mut written = Vec::with_capacity(alloc, text.len())?;
     for byte in text {
-        push_space_written(&mut written, *byte)?;
+        push_written(&mut written, *byte)?;
     }
     Ok(written)
 }
 
-fn push_space_written(written: &mut Vec<u8>, byte: u8) -> Result<(), AllocError>
-    ensures { OnOk result (written.new.items ≡ written.old.items ++ space_written byte) }
+fn push_written(written: &mut Vec<u8>, byte: u8) -> Result<(), AllocError>
+    ensures { OnOk result (written.new.items ≡ written.old.items ++ blank_written byte) }
 {
-    if byte == b'_' {
-        written.extend_from_slice(b"=20")
-    } else {
-        written.push(byte)?;
-        Ok(())
+    match byte {
+        b'_' | b' ' => written.extend_from_slice(b"=20"),
+        b'\t' => written.extend_from_slice(b"=09"),
+        _ => {
+            written.push(byte)?;
+            Ok(())
+        }
     }
 }

@@ -3,28 +3,28 @@ use Rattle.std.proofs.Common.{◌≡◌, ◌≢◌, ℕ, ◌+◌, ◌<◌, ◌�
 use Rattle.std.proofs.lemmas.Bool.{cases_Bool, eqb-true}
 use Rattle.std.proofs.lemmas.Bool.Decides.{nat_tests}
 use Rattle.std.specs.List.{list_all}
-use Rattle.html_tokens.specs.Token.{Token}
-use Rattle.html_tokens.specs.Token.Token.{Comment, Doctype}
-use Rattle.html_tokens.specs.States.{shown}
-use Rattle.html_tokens.specs.States.State.{Data, Bogus, CommentStart, CommentStartDash, CommentBody, CommentEndDash, CommentEnd, CommentEndBang, DoctypeBody}
-use Rattle.html_tokens.specs.Tokenizer.{look, again, step, read, at_end}
-use Rattle.html_tokens.specs.Input.{input}
+use Rattle.html_syntax.specs.Token.{Token}
+use Rattle.html_syntax.specs.Token.Token.{Comment, Doctype}
+use Rattle.html_syntax.specs.States.{replace_null}
+use Rattle.html_syntax.specs.States.State.{Data, Bogus, CommentStart, CommentStartDash, CommentBody, CommentEndDash, CommentEnd, CommentEndBang, DoctypeBody}
+use Rattle.html_syntax.specs.Tokenizer.{look, look_again, step, read, tokens_at_end}
+use Rattle.html_references.specs.Input.{input}
 use Rattle.html_tokens.specs.Cuts.{Lacks, BeginsWith, EndsBy}
 use Rattle.html_tokens.specs.Closings.{after_hyphens, closing, abrupt}
 use Rattle.html_tokens.proofs.Runs.{Reader, reconsumed, run}
 use Rattle.html_tokens.proofs.Marks.{Marks, begins_marked}
 use Rattle.std.proofs.lemmas.List.{map-append, drop-drop, length-drop}
 use Rattle.std.proofs.lemmas.Str.{IsUtf8-take, IsUtf8-drop, IsCharBoundary-from_drop}
-use Rattle.html_tokens.proofs.Stretches.{First, input-first, input-cons, input-nil, input-cut, input-append, all-input, IsMarked, utf8_tail}
+use Rattle.html_references.proofs.Stretches.{First, input-first, input-cons, input-nil, input-cut, input-append, all-input, IsMarked, utf8_tail}
 
 -- ---- a hyphen in a comment
 
 body_dash : (k text : List ℕ) → read (CommentBody k) 0 (45 ∷ text) ≡ read (CommentEndDash k) 0 text
-unfolding read step again look
+unfolding read step look_again look
 body_dash k text = refl
 
 dash_dash : (k text : List ℕ) → read (CommentEndDash k) 0 (45 ∷ text) ≡ read (CommentEnd k) 0 text
-unfolding read step again look
+unfolding read step look_again look
 dash_dash k text = refl
 
 dash_other : (k : List ℕ) (c : ℕ) (text : List ℕ) → (c == 45) ≡ false → read (CommentEndDash k) 0 (c ∷ text) ≡ read (CommentBody (k ++ 45 ∷ [])) 0 (c ∷ text)
@@ -32,23 +32,23 @@ unfolding look
 dash_other k c text h = reconsumed (CommentEndDash k) (CommentBody (k ++ 45 ∷ [])) [] c text (rw h refl)
 
 end_dash : (k text : List ℕ) → read (CommentEnd k) 0 (45 ∷ text) ≡ read (CommentEnd (k ++ 45 ∷ [])) 0 text
-unfolding read step again look
+unfolding read step look_again look
 end_dash k text = refl
 
 end_bang : (k text : List ℕ) → read (CommentEnd k) 0 (33 ∷ text) ≡ read (CommentEndBang k) 0 text
-unfolding read step again look
+unfolding read step look_again look
 end_bang k text = refl
 
 pub end_close : (k text : List ℕ) → read (CommentEnd k) 0 (62 ∷ text) ≡ Comment k ∷ read Data 0 text
-unfolding read step again look
+unfolding read step look_again look
 end_close k text = refl
 
 pub bang_close : (k text : List ℕ) → read (CommentEndBang k) 0 (62 ∷ text) ≡ Comment k ∷ read Data 0 text
-unfolding read step again look
+unfolding read step look_again look
 bang_close k text = refl
 
 bang_dash : (k text : List ℕ) → read (CommentEndBang k) 0 (45 ∷ text) ≡ read (CommentEndDash (k ++ 45 ∷ 45 ∷ 33 ∷ [])) 0 text
-unfolding read step again look
+unfolding read step look_again look
 bang_dash k text = refl
 
 bang_other : (k : List ℕ) (c : ℕ) (text : List ℕ) → (c == 45) ≡ false → (c == 62) ≡ false → read (CommentEndBang k) 0 (c ∷ text) ≡ read (CommentBody (k ++ 45 ∷ 45 ∷ 33 ∷ [])) 0 (c ∷ text)
@@ -60,7 +60,7 @@ unfolding look
 end_other k c text h g f = reconsumed (CommentEnd k) (CommentBody (k ++ 45 ∷ 45 ∷ [])) [] c text (rw (h, g, f) refl)
 
 body_bang : (k text : List ℕ) → read (CommentBody k) 0 (33 ∷ text) ≡ read (CommentBody (k ++ 33 ∷ [])) 0 text
-unfolding read step again look
+unfolding read step look_again look
 body_bang k text = refl
 
 -- ---- bytes and characters
@@ -172,8 +172,8 @@ dash_kept k (b ∷ bytes) utf8 h = rw (hyphen (b ∷ bytes)) (body_dash k (input
 
 -- ---- stretches of a comment
 
-body_keeps : (kept : List ℕ) (c : ℕ) (text : List ℕ) → is_undashed c ≡ true → read (CommentBody kept) 0 (c ∷ text) ≡ read (CommentBody (kept ++ shown c ∷ [])) 0 text
-unfolding read step again look
+body_keeps : (kept : List ℕ) (c : ℕ) (text : List ℕ) → is_undashed c ≡ true → read (CommentBody kept) 0 (c ∷ text) ≡ read (CommentBody (kept ++ replace_null c ∷ [])) 0 text
+unfolding read step look_again look
 body_keeps kept c text h =
     let other : (c == 45) ≡ false = grind (arith, nat_tests) in
     rw other refl
@@ -181,19 +181,19 @@ body_keeps kept c text h =
 abbrev pub body : Reader
 body kept passing text = read (CommentBody kept) passing text
 
-body_piece : (kept xs ys : List ℕ) → IsUtf8 xs → Lacks 45 xs → BeginsWith 45 ys → body kept 0 (input (xs ++ ys)) ≡ body (kept ++ map shown (input xs)) 0 (input ys)
+body_piece : (kept xs ys : List ℕ) → IsUtf8 xs → Lacks 45 xs → BeginsWith 45 ys → body kept 0 (input (xs ++ ys)) ≡ body (kept ++ map replace_null (input xs)) 0 (input ys)
 body_piece kept xs ys utf8 lacks begins =
     ap (body kept 0) (input-append xs ys utf8 (begins_marked 45 (omega arith) (λ (e : 45 ≡ 10). omega arith) ys begins))
-    ∙ run body is_undashed shown body_keeps kept (input xs) (input ys) (all-input is_undashed (λ c big. grind (arith, nat_tests)) (λ _. refl) xs utf8 lacks)
+    ∙ run body is_undashed replace_null body_keeps kept (input xs) (input ys) (all-input is_undashed (λ c big. grind (arith, nat_tests)) (λ _. refl) xs utf8 lacks)
 
 -- a hyphen with which the comment goes on
 abbrev pub GoesOn : List ℕ → Type 0
 GoesOn text = closing text ≡ 0
 
-body_joins : (xs ys : List ℕ) → map shown (xs ++ 45 ∷ ys) ≡ map shown xs ++ 45 ∷ map shown ys
-body_joins xs ys = map-append shown xs (45 ∷ ys)
+body_joins : (xs ys : List ℕ) → map replace_null (xs ++ 45 ∷ ys) ≡ map replace_null xs ++ 45 ∷ map replace_null ys
+body_joins xs ys = map-append replace_null xs (45 ∷ ys)
 
-pub body_marks : Marks body 45 (map shown) GoesOn
+pub body_marks : Marks body 45 (map replace_null) GoesOn
 body_marks = record {
   small = omega arith;
   no_feed = λ (e : 45 ≡ 10). omega arith;
@@ -206,15 +206,15 @@ body_marks = record {
 -- ---- where a comment ends
 
 body_nil : (k : List ℕ) → read (CommentBody k) 0 [] ≡ Comment k ∷ []
-unfolding read at_end
+unfolding read tokens_at_end
 body_nil k = refl
 
 endings : (k : List ℕ) → (read (CommentEndDash k) 0 [] ≡ Comment k ∷ []) × (read (CommentEnd k) 0 [] ≡ Comment k ∷ []) × (read (CommentEndBang k) 0 [] ≡ Comment k ∷ [])
-unfolding read at_end
+unfolding read tokens_at_end
 endings k = (refl, refl, refl)
 
 data_nil : read Data 0 [] ≡ []
-unfolding read at_end
+unfolding read tokens_at_end
 data_nil = refl
 
 -- What is left of a text after its first characters, so many that no length is counted in the rest.
@@ -313,27 +313,27 @@ closed k (c ∷ d ∷ e ∷ f ∷ text) utf8 some =
 -- ---- where a comment begins
 
 start_close : (k text : List ℕ) → read (CommentStart k) 0 (62 ∷ text) ≡ Comment k ∷ read Data 0 text
-unfolding read step again look
+unfolding read step look_again look
 start_close k text = refl
 
 start_dash : (k text : List ℕ) → read (CommentStart k) 0 (45 ∷ text) ≡ read (CommentStartDash k) 0 text
-unfolding read step again look
+unfolding read step look_again look
 start_dash k text = refl
 
 dash_close : (k text : List ℕ) → read (CommentStartDash k) 0 (62 ∷ text) ≡ Comment k ∷ read Data 0 text
-unfolding read step again look
+unfolding read step look_again look
 dash_close k text = refl
 
 start_dash_dash : (k text : List ℕ) → read (CommentStartDash k) 0 (45 ∷ text) ≡ read (CommentEnd k) 0 text
-unfolding read step again look
+unfolding read step look_again look
 start_dash_dash k text = refl
 
 start_nil : (k : List ℕ) → read (CommentStart k) 0 [] ≡ read (CommentBody k) 0 []
-unfolding read at_end
+unfolding read tokens_at_end
 start_nil k = refl
 
 start_dash_nil : (k : List ℕ) → read (CommentStartDash k) 0 [] ≡ read (CommentEndDash k) 0 []
-unfolding read at_end
+unfolding read tokens_at_end
 start_dash_nil k = refl
 
 start_other : (k : List ℕ) (c : ℕ) (text : List ℕ) → (c == 45) ≡ false → (c == 62) ≡ false → read (CommentStart k) 0 (c ∷ text) ≡ read (CommentBody k) 0 (c ∷ text)
@@ -431,8 +431,8 @@ abruptly k (b ∷ d ∷ text) utf8 some = elim (cases_Bool (b == 62)) [
 
 -- ---- bogus comments and DOCTYPEs
 
-bogus_keeps : (kept : List ℕ) (c : ℕ) (text : List ℕ) → is_unclosed c ≡ true → read (Bogus kept) 0 (c ∷ text) ≡ read (Bogus (kept ++ shown c ∷ [])) 0 text
-unfolding read step again look
+bogus_keeps : (kept : List ℕ) (c : ℕ) (text : List ℕ) → is_unclosed c ≡ true → read (Bogus kept) 0 (c ∷ text) ≡ read (Bogus (kept ++ replace_null c ∷ [])) 0 text
+unfolding read step look_again look
 bogus_keeps kept c text h =
     let other : (c == 62) ≡ false = grind (arith, nat_tests) in
     rw other refl
@@ -441,7 +441,7 @@ abbrev bogus : Reader
 bogus kept passing text = read (Bogus kept) passing text
 
 doctype_keeps : (kept : List ℕ) (c : ℕ) (text : List ℕ) → is_unclosed c ≡ true → read DoctypeBody 0 (c ∷ text) ≡ read DoctypeBody 0 text
-unfolding read step again look
+unfolding read step look_again look
 doctype_keeps kept c text h =
     let other : (c == 62) ≡ false = grind (arith, nat_tests) in
     rw other refl
@@ -450,15 +450,15 @@ abbrev doctype : Reader
 doctype kept passing text = read DoctypeBody passing text
 
 close_bogus : (k text : List ℕ) → read (Bogus k) 0 (62 ∷ text) ≡ Comment k ∷ read Data 0 text
-unfolding read step again look
+unfolding read step look_again look
 close_bogus k text = refl
 
 close_doctype : (text : List ℕ) → read DoctypeBody 0 (62 ∷ text) ≡ Doctype ∷ read Data 0 text
-unfolding read step again look
+unfolding read step look_again look
 close_doctype text = refl
 
 no_close : (k : List ℕ) → (read (Bogus k) 0 [] ≡ Comment k ∷ []) × (read DoctypeBody 0 [] ≡ Doctype ∷ [])
-unfolding read at_end
+unfolding read tokens_at_end
 no_close k = (refl, refl)
 
 -- what follows the text of such a comment
@@ -478,30 +478,30 @@ all_unclosed : (bytes : List ℕ) → IsUtf8 bytes → Lacks 62 bytes → list_a
 all_unclosed bytes utf8 lacks = all-input is_unclosed (λ c big. grind (arith, nat_tests)) (λ _. refl) bytes utf8 lacks
 
 pub bogus_ends : (text : List ℕ) (len end : ℕ) → IsUtf8 text → IsCharBoundary text len → Lacks 62 (take len text) → EndsBy 62 text len end
-    → read (Bogus []) 0 (input text) ≡ Comment (map shown (input (take len text))) ∷ read Data 0 (input (drop end text))
+    → read (Bogus []) 0 (input text) ≡ Comment (map replace_null (input (take len text))) ∷ read Data 0 (input (drop end text))
 bogus_ends text len end utf8 cut lacks ends =
     let front = IsUtf8-take text len utf8 cut in
     ap (read (Bogus []) 0) (input-cut len text front (close_marked text len end ends))
-    ∙ run bogus is_unclosed shown bogus_keeps [] (input (take len text)) (input (drop len text)) (all_unclosed (take len text) front lacks)
-    ∙ ended_bogus (map shown (input (take len text))) text len end ends
+    ∙ run bogus is_unclosed replace_null bogus_keeps [] (input (take len text)) (input (drop len text)) (all_unclosed (take len text) front lacks)
+    ∙ ended_bogus (map replace_null (input (take len text))) text len end ends
 
 pub doctype_ends : (text : List ℕ) (len end : ℕ) → IsUtf8 text → IsCharBoundary text len → Lacks 62 (take len text) → EndsBy 62 text len end
     → read DoctypeBody 0 (input text) ≡ Doctype ∷ read Data 0 (input (drop end text))
 doctype_ends text len end utf8 cut lacks ends =
     let front = IsUtf8-take text len utf8 cut in
     ap (read DoctypeBody 0) (input-cut len text front (close_marked text len end ends))
-    ∙ run doctype is_unclosed shown doctype_keeps [] (input (take len text)) (input (drop len text)) (all_unclosed (take len text) front lacks)
+    ∙ run doctype is_unclosed replace_null doctype_keeps [] (input (take len text)) (input (drop len text)) (all_unclosed (take len text) front lacks)
     ∙ ended_doctype text len end ends
 
 -- ---- by places
 
 -- a comment of which the text ends here
 pub body_closes : (all : List Token) (text : List ℕ) (at : ℕ) → IsUtf8 text → IsCharBoundary text at → (at < length text → 0 < closing (drop at text))
-    → all ≡ read (CommentBody (map shown (input (take at text)))) 0 (input (drop at text))
-    → all ≡ Comment (map shown (input (take at text))) ∷ read Data 0 (input (drop (at + closing (drop at text)) text))
+    → all ≡ read (CommentBody (map replace_null (input (take at text)))) 0 (input (drop at text))
+    → all ≡ Comment (map replace_null (input (take at text))) ∷ read Data 0 (input (drop (at + closing (drop at text)) text))
 body_closes all text at utf8 cut some held =
-    let c = closed (map shown (input (take at text))) (drop at text) (IsUtf8-drop text at utf8 cut) (λ lt. some (omega (arith, lt, length-drop at text))) in
-    held ∙ c.closes ∙ ap (λ (l : List ℕ). Comment (map shown (input (take at text))) ∷ read Data 0 (input l)) (drop-drop (closing (drop at text)) at text)
+    let c = closed (map replace_null (input (take at text))) (drop at text) (IsUtf8-drop text at utf8 cut) (λ lt. some (omega (arith, lt, length-drop at text))) in
+    held ∙ c.closes ∙ ap (λ (l : List ℕ). Comment (map replace_null (input (take at text))) ∷ read Data 0 (input l)) (drop-drop (closing (drop at text)) at text)
 
 pub body_boundary : (text : List ℕ) (at : ℕ) → IsUtf8 text → IsCharBoundary text at → (at < length text → 0 < closing (drop at text)) → IsCharBoundary text (at + closing (drop at text))
 body_boundary text at utf8 cut some =
@@ -513,5 +513,5 @@ abrupt_boundary text utf8 some =
     let a = abruptly [] text utf8 some in
     IsCharBoundary-from_drop text (abrupt text) a.within a.utf8
 
-pub abrupt_closes : (text : List ℕ) → IsUtf8 text → 0 < abrupt text → read (CommentStart []) 0 (input text) ≡ Comment (map shown (input [])) ∷ read Data 0 (input (drop (abrupt text) text))
+pub abrupt_closes : (text : List ℕ) → IsUtf8 text → 0 < abrupt text → read (CommentStart []) 0 (input text) ≡ Comment (map replace_null (input [])) ∷ read Data 0 (input (drop (abrupt text) text))
 abrupt_closes text utf8 some = rw input-nil (abruptly [] text utf8 some).closes

@@ -9,10 +9,10 @@ use Rattle.std.specs.Str.{bytes_eq}
 use Rattle.html_tokens.specs.declared.name_set.NameSet.{NameSet}
 use Rattle.html_tokens.specs.Kept.{is_named, HoldsNames}
 use Rattle.html_tokens.specs.NameSets.{has}
-use Rattle.html_tokens.specs.States.{has_name, same}
+use Rattle.html_syntax.specs.States.{has_name, same}
 use Rattle.html_tokens.specs.Tags.{kept_among}
-use Rattle.html_tokens.specs.Token.{Attribute, attribute_of}
-use Rattle.html_tokens.proofs.Texts.{same_text, same_sym}
+use Rattle.html_syntax.specs.Token.{Attribute, attribute_of}
+use Rattle.html_syntax.proofs.Texts.{same_text, same_sym}
 
 -- The set has this name and those of another.
 abbrev pub HasMore : List ℕ → NameSet → NameSet → Type 0

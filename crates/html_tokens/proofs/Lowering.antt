@@ -5,7 +5,7 @@ use Rattle.std.proofs.lemmas.Bool.Decides.{nat_tests}
 use Rattle.std.proofs.lemmas.List.{map-append}
 use Rattle.std.proofs.lemmas.Str.{encodes-chars, chars-encodes, scalars-chars}
 use lib.Utf8.{encode, encodes, scalar, scalars}
-use Rattle.html_tokens.specs.Characters.{lower}
+use Rattle.html_syntax.specs.Characters.{lower}
 
 high_stays : (b : ℕ) → 128 ≤ b → lower b ≡ b
 high_stays b big = grind (arith, nat_tests)

@@ -3,11 +3,11 @@ use Rattle.std.proofs.Common.{◌≡◌, ◌≢◌, ℕ, suc, ◌+◌, ◌<◌, 
 use Rattle.std.proofs.lemmas.List.{take-append-drop, drop_more, drop-drop}
 use Rattle.std.proofs.Math.Seq.{take-add}
 use Rattle.std.proofs.lemmas.Str.{IsUtf8-take, IsUtf8-drop, IsCharBoundary-after_ascii, IsCharBoundary-from_rest}
-use Rattle.html_tokens.specs.Token.{Token}
-use Rattle.html_tokens.specs.Input.{input}
+use Rattle.html_syntax.specs.Token.{Token}
+use Rattle.html_references.specs.Input.{input}
 use Rattle.html_tokens.specs.Cuts.{Lacks, BeginsWith}
 use Rattle.html_tokens.proofs.Runs.{Reader}
-use Rattle.html_tokens.proofs.Stretches.{input-cons, input-append, IsMarked}
+use Rattle.html_references.proofs.Stretches.{input-cons, input-append, IsMarked}
 
 -- The reader `F` keeps of a stretch what `held` says, also of a mark that `Goes` says to be of the run.
 pub record Marks (F : Reader) (mark : ℕ) (held : List ℕ → List ℕ) (Goes : List ℕ → Type 0) : Type 0 where

@@ -5,71 +5,72 @@ use Rattle.std.proofs.lemmas.Bool.Decides.{nat_tests}
 use Rattle.std.proofs.lemmas.Str.{IsCharBoundary-from_drop, IsUtf8-drop}
 use Rattle.std.proofs.lemmas.List.{drop-drop, length-drop}
 use Rattle.std.specs.List.{list_all}
-use Rattle.html_tokens.specs.Characters.{is_letter, lower}
-use Rattle.html_tokens.specs.References.{begins}
-use Rattle.html_tokens.specs.States.{new_tag}
-use Rattle.html_tokens.specs.States.State.{Data, TagOpen, EndTagOpen, TagName, Bogus, Markup, CommentStart, DoctypeBody}
-use Rattle.html_tokens.specs.States.Move.{Again, Past}
-use Rattle.html_tokens.specs.Tokenizer.{look, again, step, read, at_end}
-use Rattle.html_tokens.specs.Input.{input}
-use Rattle.html_tokens.specs.Openings.{begins_lowered, opening_len, state_after, after_bang, after_solidus, opening_of, OpensTag, begins_empty}
+use Rattle.html_syntax.specs.Characters.{is_letter, lower}
+use Rattle.html_syntax.specs.References.{begins_with}
+use Rattle.html_syntax.specs.States.{new_tag}
+use Rattle.html_syntax.specs.States.State.{Data, TagOpen, EndTagOpen, TagName, Bogus, Markup, CommentStart, DoctypeBody}
+use Rattle.html_syntax.specs.States.Action.{ReconsumeIn, SwitchPast}
+use Rattle.html_syntax.specs.Tokenizer.{look, look_again, step, read, tokens_at_end}
+use Rattle.html_references.specs.Input.{input}
+use Rattle.html_references.specs.Prefixes.{begins_lowered}
+use Rattle.html_tokens.specs.Openings.{opening_len, state_after, after_bang, after_solidus, opening_of, OpensTag, begins_empty}
 use Rattle.html_tokens.specs.Scanned.{opens_markup, opens_start, opens_end}
 use Rattle.html_tokens.specs.declared.markup.Opening.{Opening}
 use Rattle.html_tokens.specs.declared.markup.Opening.TheVariants as opening
 use Rattle.html_tokens.proofs.Runs.{reconsumed, passed_over}
-use Rattle.html_tokens.proofs.Stops.{begins-len}
-use Rattle.html_tokens.proofs.Stretches.{input-first, input-cons, input-nil, utf8_tail}
+use Rattle.html_references.proofs.Stops.{begins-len}
+use Rattle.html_references.proofs.Stretches.{input-first, input-cons, input-nil, utf8_tail}
 
 -- ---- rows
 
 tag_open : (text : List ℕ) → read Data 0 (60 ∷ text) ≡ read TagOpen 0 text
-unfolding read step again look
+unfolding read step look_again look
 tag_open text = refl
 
 end_tag_open : (text : List ℕ) → read TagOpen 0 (47 ∷ text) ≡ read EndTagOpen 0 text
-unfolding read step again look
+unfolding read step look_again look
 end_tag_open text = refl
 
 markup : (text : List ℕ) → read TagOpen 0 (33 ∷ text) ≡ read Markup 0 text
-unfolding read step again look
+unfolding read step look_again look
 markup text = refl
 
 nothing : (text : List ℕ) → read EndTagOpen 0 (62 ∷ text) ≡ read Data 0 text
-unfolding read step again look
+unfolding read step look_again look
 nothing text = refl
 
-question_look : (text : List ℕ) → look TagOpen 63 text ≡ Again (Bogus []) []
+question_look : (text : List ℕ) → look TagOpen 63 text ≡ ReconsumeIn (Bogus []) []
 unfolding look
 question_look text = refl
 
-start_look : (c : ℕ) (text : List ℕ) → is_letter c ≡ true → look TagOpen c text ≡ Again (TagName (new_tag false)) []
+start_look : (c : ℕ) (text : List ℕ) → is_letter c ≡ true → look TagOpen c text ≡ ReconsumeIn (TagName (new_tag false)) []
 unfolding look
 start_look c text h =
     let a : (c == 0x21) ≡ false = grind (arith, nat_tests) in
     let b : (c == 0x2F) ≡ false = grind (arith, nat_tests) in
     rw (a, b, h) refl
 
-end_look : (c : ℕ) (text : List ℕ) → is_letter c ≡ true → look EndTagOpen c text ≡ Again (TagName (new_tag true)) []
+end_look : (c : ℕ) (text : List ℕ) → is_letter c ≡ true → look EndTagOpen c text ≡ ReconsumeIn (TagName (new_tag true)) []
 unfolding look
 end_look c text h = rw h refl
 
-bogus_end_look : (c : ℕ) (text : List ℕ) → is_letter c ≡ false → (c == 62) ≡ false → look EndTagOpen c text ≡ Again (Bogus []) []
+bogus_end_look : (c : ℕ) (text : List ℕ) → is_letter c ≡ false → (c == 62) ≡ false → look EndTagOpen c text ≡ ReconsumeIn (Bogus []) []
 unfolding look
 bogus_end_look c text h g = rw (h, g) refl
 
 hyphens : (text : List ℕ) → read Markup 0 (45 ∷ 45 ∷ text) ≡ read (CommentStart []) 0 text
-unfolding read step again look
+unfolding read step look_again look
 hyphens text = refl
 
 markup_nil : read Markup 0 [] ≡ read (Bogus []) 0 []
-unfolding read at_end
+unfolding read tokens_at_end
 markup_nil = refl
 
-bogus_markup_look : (c : ℕ) (text : List ℕ) → begins (codes "--") (c ∷ text) ≡ false → begins (codes "doctype") (map lower (c ∷ take 6 text)) ≡ false → look Markup c text ≡ Again (Bogus []) []
+bogus_markup_look : (c : ℕ) (text : List ℕ) → begins_with (codes "--") (c ∷ text) ≡ false → begins_with (codes "doctype") (map lower (c ∷ take 6 text)) ≡ false → look Markup c text ≡ ReconsumeIn (Bogus []) []
 unfolding look
 bogus_markup_look c text h g = rw (h, g) refl
 
-doctype_look : (a : ℕ) (text : List ℕ) → (45 == a) ≡ false → begins (codes "doctype") (map lower (a ∷ take 6 text)) ≡ true → look Markup a text ≡ Past 6 DoctypeBody []
+doctype_look : (a : ℕ) (text : List ℕ) → (45 == a) ≡ false → begins_with (codes "doctype") (map lower (a ∷ take 6 text)) ≡ true → look Markup a text ≡ SwitchPast 6 DoctypeBody []
 unfolding look
 doctype_look a text h k = rw (h, k) refl
 
@@ -77,7 +78,7 @@ six_past : (b c d e f g : ℕ) (text : List ℕ) → read DoctypeBody 6 (b ∷ c
 unfolding read
 six_past b c d e f g text = refl
 
-doctype_read : (a b c d e f g : ℕ) (text : List ℕ) → (45 == a) ≡ false → begins (codes "doctype") (map lower (a ∷ b ∷ c ∷ d ∷ e ∷ f ∷ g ∷ [])) ≡ true
+doctype_read : (a b c d e f g : ℕ) (text : List ℕ) → (45 == a) ≡ false → begins_with (codes "doctype") (map lower (a ∷ b ∷ c ∷ d ∷ e ∷ f ∷ g ∷ [])) ≡ true
     → read Markup 0 (a ∷ b ∷ c ∷ d ∷ e ∷ f ∷ g ∷ text) ≡ read DoctypeBody 0 text
 doctype_read a b c d e f g text h k =
     passed_over Markup DoctypeBody 6 [] a (b ∷ c ∷ d ∷ e ∷ f ∷ g ∷ text) (doctype_look a (b ∷ c ∷ d ∷ e ∷ f ∷ g ∷ text) h k) ∙ six_past b c d e f g text
@@ -91,7 +92,7 @@ is_firm x = not (x == 10) && not (x == 13) && nat_lt x 128
 unfirm : (x : ℕ) → is_firm x ≡ true → (x ≢ 10) × (x ≢ 13) × (x < 128)
 unfirm x h = ((λ e. absurd (grind (arith, nat_tests))), (λ e. absurd (grind (arith, nat_tests))), grind (arith, nat_tests))
 
-begins_stream : (w bytes : List ℕ) → list_all is_firm w ≡ true → IsUtf8 bytes → begins w (input bytes) ≡ begins w bytes
+begins_stream : (w bytes : List ℕ) → list_all is_firm w ≡ true → IsUtf8 bytes → begins_with w (input bytes) ≡ begins_with w bytes
 begins_stream [] bytes h utf8 = refl
 begins_stream (x ∷ w) [] h utf8 = rw input-nil refl
 begins_stream (x ∷ w) (b ∷ bytes) h utf8 =
@@ -142,7 +143,7 @@ lowered_stream (x ∷ w) (b ∷ bytes) h utf8 =
           rw (f.is, not_lowered x b parts.0 other, not_lowered x f.char parts.0 (not-true (is_letter f.char) f.passes)) refl
     ]
 
-begins_taken : (w cs : List ℕ) → begins w (map lower (take (length w) cs)) ≡ begins_lowered w cs
+begins_taken : (w cs : List ℕ) → begins_with w (map lower (take (length w) cs)) ≡ begins_lowered w cs
 begins_taken [] cs = refl
 begins_taken (x ∷ w) [] = refl
 begins_taken (x ∷ w) (c ∷ cs) = ap (λ (t : Bool). x == lower c && t) (begins_taken w cs)
@@ -187,22 +188,22 @@ doctype_here (a ∷ b ∷ c ∷ d ∷ e ∷ f ∷ g ∷ u) utf8 h =
     let no_hyphen : (45 == a) ≡ false = grind (arith, nat_tests) in
     (ap (read Markup 0) l.stream ∙ doctype_read a b c d e f g (input u) no_hyphen (begins_taken (codes "doctype") (a ∷ b ∷ c ∷ d ∷ e ∷ f ∷ g ∷ u) ∙ h), l.utf8)
 
-pub comment_here : (t : List ℕ) → IsUtf8 t → begins (codes "--") t ≡ true → (read Markup 0 (input t) ≡ read (CommentStart []) 0 (input (drop 2 t))) × IsUtf8 (drop 2 t)
+pub comment_here : (t : List ℕ) → IsUtf8 t → begins_with (codes "--") t ≡ true → (read Markup 0 (input t) ≡ read (CommentStart []) 0 (input (drop 2 t))) × IsUtf8 (drop 2 t)
 comment_here [] utf8 h = absurd cc
 comment_here (a ∷ []) utf8 h = absurd (omega (arith, begins-len (codes "--") (a ∷ []) h))
 comment_here (a ∷ b ∷ t) utf8 h =
-    let parts = and_parts (45 == a) (begins (codes "-") (b ∷ t)) h in
+    let parts = and_parts (45 == a) (begins_with (codes "-") (b ∷ t)) h in
     let more = and_parts (45 == b) true parts.1 in
     let x : a ≡ 45 = sym (eqb-true 45 a parts.0) in
     let y : b ≡ 45 = sym (eqb-true 45 b more.0) in
     let there = utf8_tail 45 t (omega arith) (utf8_tail 45 (45 ∷ t) (omega arith) (rw (x, y) at utf8)) in
     (rw (x, y, input-cons 45 (45 ∷ t) (omega arith) (λ (e : 45 ≡ 13). omega arith), input-cons 45 t (omega arith) (λ (e : 45 ≡ 13). omega arith)) (hyphens (input t)), there)
 
-bogus_markup : (cs : List ℕ) → begins (codes "--") cs ≡ false → begins_lowered (codes "doctype") cs ≡ false → read Markup 0 cs ≡ read (Bogus []) 0 cs
+bogus_markup : (cs : List ℕ) → begins_with (codes "--") cs ≡ false → begins_lowered (codes "doctype") cs ≡ false → read Markup 0 cs ≡ read (Bogus []) 0 cs
 bogus_markup [] h g = markup_nil
 bogus_markup (c ∷ cs) h g = reconsumed Markup (Bogus []) [] c cs (bogus_markup_look c cs h (begins_taken (codes "doctype") (c ∷ cs) ∙ g))
 
-pub bogus_here : (t : List ℕ) → IsUtf8 t → begins (codes "--") t ≡ false → begins_lowered (codes "doctype") t ≡ false → read Markup 0 (input t) ≡ read (Bogus []) 0 (input t)
+pub bogus_here : (t : List ℕ) → IsUtf8 t → begins_with (codes "--") t ≡ false → begins_lowered (codes "doctype") t ≡ false → read Markup 0 (input t) ≡ read (Bogus []) 0 (input t)
 bogus_here t utf8 h g = bogus_markup (input t) (begins_stream (codes "--") t refl utf8 ∙ h) (lowered_stream (codes "doctype") t refl utf8 ∙ g)
 
 -- ---- what opens
@@ -226,7 +227,7 @@ solidus_in : (bytes : List ℕ) → read Data 0 (input (60 ∷ 47 ∷ bytes)) �
 solidus_in bytes = rw (less (47 ∷ bytes), input-cons 47 bytes (omega arith) (λ (e : 47 ≡ 13). omega arith)) (tag_open (47 ∷ input bytes) ∙ end_tag_open (input bytes))
 
 bang_opens : (t : List ℕ) → IsUtf8 t → Opened (60 ∷ 33 ∷ t) (after_bang t)
-bang_opens t utf8 = elim (cases_Bool (begins (codes "--") t)) [
+bang_opens t utf8 = elim (cases_Bool (begins_with (codes "--") t)) [
   | inl is ↦
       let h = comment_here t utf8 is in
       rw is record { utf8 = h.1; within = omega (arith, begins-len (codes "--") t is); reads = bang_in t ∙ h.0; tag = tt }

@@ -4,15 +4,15 @@ use Rattle.std.proofs.lemmas.Bool.{cases_Bool, eqb-true, not-true}
 use Rattle.std.proofs.lemmas.Bool.Decides.{nat_tests}
 use Rattle.std.proofs.lemmas.List.{map-append, drop_all}
 use Rattle.std.specs.List.{list_all}
-use Rattle.html_tokens.specs.Token.{Token}
-use Rattle.html_tokens.specs.Token.Token.{Char}
-use Rattle.html_tokens.specs.References.{reference}
-use Rattle.html_tokens.specs.States.{Kind, State, is_script, shown}
-use Rattle.html_tokens.specs.States.Kind.{Rcdata, Rawtext, Script, Escaped}
-use Rattle.html_tokens.specs.States.State.{Data, Raw, RawLess, Plaintext}
-use Rattle.html_tokens.specs.States.Move.{Again}
-use Rattle.html_tokens.specs.Tokenizer.{look, again, step, read, at_end, chars}
-use Rattle.html_tokens.specs.Input.{input, decoded, read_as}
+use Rattle.html_syntax.specs.Token.{Token}
+use Rattle.html_syntax.specs.Token.Token.{Char}
+use Rattle.html_syntax.specs.References.{reference}
+use Rattle.html_syntax.specs.States.{RawTextKind, State, is_script, replace_null}
+use Rattle.html_syntax.specs.States.RawTextKind.{Rcdata, Rawtext, Script, Escaped}
+use Rattle.html_syntax.specs.States.State.{Data, Raw, RawLess, Plaintext}
+use Rattle.html_syntax.specs.States.Action.{ReconsumeIn}
+use Rattle.html_syntax.specs.Tokenizer.{look, look_again, step, read, tokens_at_end, chars}
+use Rattle.html_references.specs.Input.{input, decode_references, read_as}
 use Rattle.html_tokens.specs.Scanned.{name_of, kind_of}
 use Rattle.html_tokens.specs.Contents.{text_in, named, closes}
 use Rattle.html_tokens.specs.Cuts.{Lacks, BeginsWith}
@@ -22,34 +22,34 @@ use Rattle.html_tokens.proofs.Runs.{emits, emits-more, reconsumed, run}
 use Rattle.html_tokens.proofs.Marks.{Marks, begins_marked}
 use Rattle.html_tokens.proofs.Decoding.{Decodes, decoded_run, decoded-append}
 use Rattle.html_tokens.proofs.TextRuns.{is_plain, all_plain, less_stops}
-use Rattle.html_tokens.proofs.Stretches.{PassesWide, First, input-first, input-nil, input-append, utf8_tail}
+use Rattle.html_references.proofs.Stretches.{PassesWide, First, input-first, input-nil, input-append, utf8_tail}
 use Rattle.html_tokens.proofs.EndTags.{IsWord, closed, raw_solidus, input-less}
 
-abbrev pub is_escaped : Kind → Bool
+abbrev pub is_escaped : RawTextKind → Bool
 is_escaped Rcdata = false
 is_escaped Rawtext = false
 is_escaped Script = false
 is_escaped Escaped = true
 
-pub raw_nil : (k : Kind) (last : List ℕ) → read (Raw k last) 0 [] ≡ read Data 0 []
-unfolding read at_end
+pub raw_nil : (k : RawTextKind) (last : List ℕ) → read (Raw k last) 0 [] ≡ read Data 0 []
+unfolding read tokens_at_end
 raw_nil k last = refl
 
-less_nil : (k : Kind) (last : List ℕ) → read (Raw k last) 0 (60 ∷ []) ≡ Char 60 ∷ read (Raw k last) 0 []
-unfolding read step again look at_end
+less_nil : (k : RawTextKind) (last : List ℕ) → read (Raw k last) 0 (60 ∷ []) ≡ Char 60 ∷ read (Raw k last) 0 []
+unfolding read step look_again look tokens_at_end
 less_nil Rcdata last = refl
 less_nil Rawtext last = refl
 less_nil Script last = refl
 less_nil Escaped last = refl
 
-pub raw_less : (k : Kind) (last text : List ℕ) → is_escaped k ≡ false → read (Raw k last) 0 (60 ∷ text) ≡ read (RawLess k last) 0 text
-unfolding read step again look
+pub raw_less : (k : RawTextKind) (last text : List ℕ) → is_escaped k ≡ false → read (Raw k last) 0 (60 ∷ text) ≡ read (RawLess k last) 0 text
+unfolding read step look_again look
 raw_less Rcdata last text h = refl
 raw_less Rawtext last text h = refl
 raw_less Script last text h = refl
 raw_less Escaped last text h = absurd cc
 
-look_less : (k : Kind) (last : List ℕ) (c : ℕ) (text : List ℕ) → is_script k ≡ false → (c == 47) ≡ false → look (RawLess k last) c text ≡ Again (Raw k last) (Char 60 ∷ [])
+look_less : (k : RawTextKind) (last : List ℕ) (c : ℕ) (text : List ℕ) → is_script k ≡ false → (c == 47) ≡ false → look (RawLess k last) c text ≡ ReconsumeIn (Raw k last) (Char 60 ∷ [])
 unfolding look
 look_less k last c text h a = rw (h, a) refl
 
@@ -72,19 +72,19 @@ no_solidus : (c : ℕ) → is_unslashed c ≡ true → (c == 47) ≡ false
 unfolding is_unslashed
 no_solidus c h = not-true (c == 47) h
 
-less_other : (k : Kind) (last : List ℕ) (b : ℕ) (bytes : List ℕ) → is_script k ≡ false → is_escaped k ≡ false → IsUtf8 (b ∷ bytes) → (b == 47) ≡ false
+less_other : (k : RawTextKind) (last : List ℕ) (b : ℕ) (bytes : List ℕ) → is_script k ≡ false → is_escaped k ≡ false → IsUtf8 (b ∷ bytes) → (b == 47) ≡ false
     → read (Raw k last) 0 (60 ∷ input (b ∷ bytes)) ≡ Char 60 ∷ read (Raw k last) 0 (input (b ∷ bytes))
 less_other k last b bytes plain unescaped utf8 h =
     let f = first_unslashed b bytes utf8 h in
     rw f.is (raw_less k last (f.char ∷ f.rest) unescaped ∙ reconsumed (RawLess k last) (Raw k last) (Char 60 ∷ []) f.char f.rest (look_less k last f.char f.rest plain (no_solidus f.char f.passes)))
 
-less_solidus : (k : Kind) (last : List ℕ) (b : ℕ) (bytes : List ℕ) → b ≡ 47 → IsUtf8 (b ∷ bytes) → named (60 ∷ 47 ∷ last) (60 ∷ b ∷ bytes) ≡ false
+less_solidus : (k : RawTextKind) (last : List ℕ) (b : ℕ) (bytes : List ℕ) → b ≡ 47 → IsUtf8 (b ∷ bytes) → named (60 ∷ 47 ∷ last) (60 ∷ b ∷ bytes) ≡ false
     → read (Raw k last) 0 (input (60 ∷ b ∷ bytes)) ≡ Char 60 ∷ read (Raw k last) 0 (input (b ∷ bytes))
 less_solidus k last b bytes e utf8 h =
     rw e (raw_solidus k last bytes (utf8_tail b bytes (omega (arith, e)) utf8) (subst (λ (x : ℕ). named (60 ∷ 47 ∷ last) (60 ∷ x ∷ bytes) ≡ false) e h))
 
 -- a `<` that begins no end tag of the element
-less_text : (k : Kind) (last tail : List ℕ) → is_script k ≡ false → is_escaped k ≡ false → IsUtf8 tail → named (60 ∷ 47 ∷ last) (60 ∷ tail) ≡ false
+less_text : (k : RawTextKind) (last tail : List ℕ) → is_script k ≡ false → is_escaped k ≡ false → IsUtf8 tail → named (60 ∷ 47 ∷ last) (60 ∷ tail) ≡ false
     → read (Raw k last) 0 (input (60 ∷ tail)) ≡ Char 60 ∷ read (Raw k last) 0 (input tail)
 less_text k last [] plain unescaped utf8 h = rw (input-less [], input-nil) (less_nil k last)
 less_text k last (b ∷ bytes) plain unescaped utf8 h = elim (cases_Bool (b == 47)) [
@@ -94,45 +94,45 @@ less_text k last (b ∷ bytes) plain unescaped utf8 h = elim (cases_Bool (b == 4
 
 -- ---- RCDATA
 
-rcdata_keeps : (last kept : List ℕ) (c : ℕ) (text : List ℕ) → is_plain c ≡ true → (c == 0x26) ≡ false → emits (Raw Rcdata last) kept 0 (c ∷ text) ≡ emits (Raw Rcdata last) (kept ++ shown c ∷ []) 0 text
-unfolding read step again look
+rcdata_keeps : (last kept : List ℕ) (c : ℕ) (text : List ℕ) → is_plain c ≡ true → (c == 0x26) ≡ false → emits (Raw Rcdata last) kept 0 (c ∷ text) ≡ emits (Raw Rcdata last) (kept ++ replace_null c ∷ []) 0 text
+unfolding read step look_again look
 rcdata_keeps last kept c text h other =
     let less : (c == 60) ≡ false = not-true (c == 60) h in
-    rw (other, less) (emits-more (Raw Rcdata last) kept (shown c ∷ []) 0 text)
+    rw (other, less) (emits-more (Raw Rcdata last) kept (replace_null c ∷ []) 0 text)
 
 rcdata_refers : (last kept text : List ℕ) (c : ℕ) → (c == 0x26) ≡ true → emits (Raw Rcdata last) kept 0 (c ∷ text) ≡ emits (Raw Rcdata last) (kept ++ (reference false text).chars) (reference false text).len text
-unfolding read step again look
+unfolding read step look_again look
 rcdata_refers last kept text c is = rw is (emits-more (Raw Rcdata last) kept (reference false text).chars (reference false text).len text)
 
 rcdata_passes : (last kept : List ℕ) (n c : ℕ) (text : List ℕ) → emits (Raw Rcdata last) kept (suc n) (c ∷ text) ≡ emits (Raw Rcdata last) kept n text
 unfolding read
 rcdata_passes last kept n c text = refl
 
-rcdata_decodes : (last : List ℕ) → Decodes (emits (Raw Rcdata last)) false is_plain shown
+rcdata_decodes : (last : List ℕ) → Decodes (emits (Raw Rcdata last)) false is_plain replace_null
 rcdata_decodes last = record { keeps = rcdata_keeps last; refers = rcdata_refers last; passes = rcdata_passes last }
 
 abbrev rcdata_of : List ℕ → List ℕ
-rcdata_of text = decoded false shown 0 text
+rcdata_of text = decode_references false replace_null 0 text
 
 rcdata_piece : (last kept xs ys : List ℕ) → IsUtf8 xs → Lacks 60 xs → BeginsWith 60 ys → emits (Raw Rcdata last) kept 0 (input (xs ++ ys)) ≡ emits (Raw Rcdata last) (kept ++ rcdata_of (input xs)) 0 (input ys)
 rcdata_piece last kept xs ys utf8 lacks begins =
     ap (emits (Raw Rcdata last) kept 0) (input-append xs ys utf8 (begins_marked 60 (omega arith) (λ (e : 60 ≡ 10). omega arith) ys begins))
-    ∙ decoded_run (emits (Raw Rcdata last)) false is_plain shown (rcdata_decodes last) kept (input xs) (input ys) (all_plain xs utf8 lacks) (less_stops ys begins)
+    ∙ decoded_run (emits (Raw Rcdata last)) false is_plain replace_null (rcdata_decodes last) kept (input xs) (input ys) (all_plain xs utf8 lacks) (less_stops ys begins)
 
 -- a `<` that begins no end tag of this name
 abbrev pub Unclosing : List ℕ → List ℕ → Type 0
 Unclosing last text = named (60 ∷ 47 ∷ last) text ≡ false
 
-raw_here : (k : Kind) (last kept tail : List ℕ) → is_script k ≡ false → is_escaped k ≡ false → IsUtf8 tail → Unclosing last (60 ∷ tail) → emits (Raw k last) kept 0 (input (60 ∷ tail)) ≡ emits (Raw k last) (kept ++ 60 ∷ []) 0 (input tail)
+raw_here : (k : RawTextKind) (last kept tail : List ℕ) → is_script k ≡ false → is_escaped k ≡ false → IsUtf8 tail → Unclosing last (60 ∷ tail) → emits (Raw k last) kept 0 (input (60 ∷ tail)) ≡ emits (Raw k last) (kept ++ 60 ∷ []) 0 (input tail)
 raw_here k last kept tail plain unescaped utf8 h =
     ap (λ (l : List Token). chars kept ++ l) (less_text k last tail plain unescaped utf8 h) ∙ emits-more (Raw k last) kept (60 ∷ []) 0 (input tail)
 
 rcdata_less : (text : List ℕ) → rcdata_of (60 ∷ text) ≡ 60 ∷ rcdata_of text
-unfolding decoded
+unfolding decode_references
 rcdata_less text = refl
 
 rcdata_joins : (xs ys : List ℕ) → rcdata_of (xs ++ 60 ∷ ys) ≡ rcdata_of xs ++ 60 ∷ rcdata_of ys
-rcdata_joins xs ys = decoded-append false shown xs (60 ∷ ys) refl ∙ ap (λ (l : List ℕ). rcdata_of xs ++ l) (rcdata_less ys)
+rcdata_joins xs ys = decoded-append false replace_null xs (60 ∷ ys) refl ∙ ap (λ (l : List ℕ). rcdata_of xs ++ l) (rcdata_less ys)
 
 rcdata_marks : (last : List ℕ) → Marks (emits (Raw Rcdata last)) 60 rcdata_of (Unclosing last)
 rcdata_marks last = record {
@@ -146,21 +146,21 @@ rcdata_marks last = record {
 
 -- ---- RAWTEXT
 
-rawtext_keeps : (last kept : List ℕ) (c : ℕ) (text : List ℕ) → is_plain c ≡ true → emits (Raw Rawtext last) kept 0 (c ∷ text) ≡ emits (Raw Rawtext last) (kept ++ shown c ∷ []) 0 text
-unfolding read step again look
+rawtext_keeps : (last kept : List ℕ) (c : ℕ) (text : List ℕ) → is_plain c ≡ true → emits (Raw Rawtext last) kept 0 (c ∷ text) ≡ emits (Raw Rawtext last) (kept ++ replace_null c ∷ []) 0 text
+unfolding read step look_again look
 rawtext_keeps last kept c text h =
     let less : (c == 60) ≡ false = not-true (c == 60) h in
-    rw less (emits-more (Raw Rawtext last) kept (shown c ∷ []) 0 text)
+    rw less (emits-more (Raw Rawtext last) kept (replace_null c ∷ []) 0 text)
 
-rawtext_piece : (last kept xs ys : List ℕ) → IsUtf8 xs → Lacks 60 xs → BeginsWith 60 ys → emits (Raw Rawtext last) kept 0 (input (xs ++ ys)) ≡ emits (Raw Rawtext last) (kept ++ map shown (input xs)) 0 (input ys)
+rawtext_piece : (last kept xs ys : List ℕ) → IsUtf8 xs → Lacks 60 xs → BeginsWith 60 ys → emits (Raw Rawtext last) kept 0 (input (xs ++ ys)) ≡ emits (Raw Rawtext last) (kept ++ map replace_null (input xs)) 0 (input ys)
 rawtext_piece last kept xs ys utf8 lacks begins =
     ap (emits (Raw Rawtext last) kept 0) (input-append xs ys utf8 (begins_marked 60 (omega arith) (λ (e : 60 ≡ 10). omega arith) ys begins))
-    ∙ run (emits (Raw Rawtext last)) is_plain shown (rawtext_keeps last) kept (input xs) (input ys) (all_plain xs utf8 lacks)
+    ∙ run (emits (Raw Rawtext last)) is_plain replace_null (rawtext_keeps last) kept (input xs) (input ys) (all_plain xs utf8 lacks)
 
-pub shown_joins : (xs ys : List ℕ) → map shown (xs ++ 60 ∷ ys) ≡ map shown xs ++ 60 ∷ map shown ys
-shown_joins xs ys = map-append shown xs (60 ∷ ys)
+pub shown_joins : (xs ys : List ℕ) → map replace_null (xs ++ 60 ∷ ys) ≡ map replace_null xs ++ 60 ∷ map replace_null ys
+shown_joins xs ys = map-append replace_null xs (60 ∷ ys)
 
-rawtext_marks : (last : List ℕ) → Marks (emits (Raw Rawtext last)) 60 (map shown) (Unclosing last)
+rawtext_marks : (last : List ℕ) → Marks (emits (Raw Rawtext last)) 60 (map replace_null) (Unclosing last)
 rawtext_marks last = record {
   small = omega arith;
   no_feed = λ (e : 60 ≡ 10). omega arith;
@@ -209,24 +209,24 @@ content_over c rest at over = rw (drop_all at rest over, input-nil) (raw_nil (ki
 
 -- ---- plaintext
 
-plaintext_keeps : (kept : List ℕ) (c : ℕ) (text : List ℕ) → true ≡ true → emits Plaintext kept 0 (c ∷ text) ≡ emits Plaintext (kept ++ shown c ∷ []) 0 text
-unfolding read step again look
-plaintext_keeps kept c text h = emits-more Plaintext kept (shown c ∷ []) 0 text
+plaintext_keeps : (kept : List ℕ) (c : ℕ) (text : List ℕ) → true ≡ true → emits Plaintext kept 0 (c ∷ text) ≡ emits Plaintext (kept ++ replace_null c ∷ []) 0 text
+unfolding read step look_again look
+plaintext_keeps kept c text h = emits-more Plaintext kept (replace_null c ∷ []) 0 text
 
 plaintext_nil : read Plaintext 0 [] ≡ []
-unfolding read at_end
+unfolding read tokens_at_end
 plaintext_nil = refl
 
 all_true : (text : List ℕ) → list_all (λ c. true) text ≡ true
 all_true [] = refl
 all_true (c ∷ text) = all_true text
 
-plaintext_run : (text : List ℕ) → read Plaintext 0 text ≡ chars (map shown text)
+plaintext_run : (text : List ℕ) → read Plaintext 0 text ≡ chars (map replace_null text)
 plaintext_run text =
     ap (read Plaintext 0) (sym (append-nil text))
-    ∙ run (emits Plaintext) (λ c. true) shown plaintext_keeps [] text [] (all_true text)
-    ∙ ap (λ (l : List Token). chars (map shown text) ++ l) plaintext_nil
-    ∙ append-nil (chars (map shown text))
+    ∙ run (emits Plaintext) (λ c. true) replace_null plaintext_keeps [] text [] (all_true text)
+    ∙ ap (λ (l : List Token). chars (map replace_null text) ++ l) plaintext_nil
+    ∙ append-nil (chars (map replace_null text))
 
-pub plaintext_read : (bytes : List ℕ) → read Plaintext 0 (input bytes) ≡ chars (map shown (input bytes))
+pub plaintext_read : (bytes : List ℕ) → read Plaintext 0 (input bytes) ≡ chars (map replace_null (input bytes))
 plaintext_read bytes = plaintext_run (input bytes)

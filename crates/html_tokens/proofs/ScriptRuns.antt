@@ -2,19 +2,19 @@
 use Rattle.std.proofs.Common.{◌≡◌, ℕ, ◌<◌, Bool, true, false, not, ◌||◌, ◌==◌, List, [], ◌∷◌, refl, sym, ap, subst, ◌∙◌, arith, inl, inr, IsUtf8, codes}
 use Rattle.std.proofs.lemmas.Bool.{cases_Bool, eqb-true, ne_eqb, both_ways, not-true}
 use Rattle.std.proofs.lemmas.Bool.Decides.{nat_tests}
-use Rattle.html_tokens.specs.Token.{Token}
-use Rattle.html_tokens.specs.Token.Token.{Char}
-use Rattle.html_tokens.specs.Characters.{is_letter}
-use Rattle.html_tokens.specs.References.{begins}
-use Rattle.html_tokens.specs.States.{State, shown}
-use Rattle.html_tokens.specs.States.Kind.{Script, Escaped}
-use Rattle.html_tokens.specs.States.State.{Raw, RawLess, EscapeStart, EscapeStartDash, EscapedDash, EscapedDashDash, EscapedLess, DoubleStart, DoubleEscaped, DoubleDash, DoubleDashDash, DoubleLess, DoubleEnd}
-use Rattle.html_tokens.specs.States.Move.{Again}
-use Rattle.html_tokens.specs.Tokenizer.{look, again, step, read, at_end}
-use Rattle.html_tokens.specs.Input.{input}
+use Rattle.html_syntax.specs.Token.{Token}
+use Rattle.html_syntax.specs.Token.Token.{Char}
+use Rattle.html_syntax.specs.Characters.{is_letter}
+use Rattle.html_syntax.specs.References.{begins_with}
+use Rattle.html_syntax.specs.States.{State, replace_null}
+use Rattle.html_syntax.specs.States.RawTextKind.{Script, Escaped}
+use Rattle.html_syntax.specs.States.State.{Raw, RawLess, EscapeStart, EscapeStartDash, EscapedDash, EscapedDashDash, EscapedLess, DoubleStart, DoubleEscaped, DoubleDash, DoubleDashDash, DoubleLess, DoubleEnd}
+use Rattle.html_syntax.specs.States.Action.{ReconsumeIn}
+use Rattle.html_syntax.specs.Tokenizer.{look, look_again, step, read, tokens_at_end}
+use Rattle.html_references.specs.Input.{input}
 use Rattle.html_tokens.specs.Contents.{named}
 use Rattle.html_tokens.proofs.Runs.{reconsumed}
-use Rattle.html_tokens.proofs.Stretches.{PassesWide, First, input-first, input-cons, input-nil, utf8_tail}
+use Rattle.html_references.proofs.Stretches.{PassesWide, First, input-first, input-cons, input-nil, utf8_tail}
 use Rattle.html_tokens.proofs.EndTags.{input-less, input-solidus, input-letter, raw_solidus}
 use Rattle.html_tokens.proofs.DoubleEscapes.{no_double, starts, ends}
 
@@ -64,31 +64,31 @@ pub record Dashes (S D DD : State) : Type 0 where
   pub over_too : read DD 0 [] ≡ read D 0 []
 
 escaped_dash : (last text : List ℕ) → read (Raw Escaped last) 0 (45 ∷ text) ≡ Char 45 ∷ read (EscapedDash last) 0 text
-unfolding read step again look
+unfolding read step look_again look
 escaped_dash last text = refl
 
 escaped_second : (last text : List ℕ) → read (EscapedDash last) 0 (45 ∷ text) ≡ Char 45 ∷ read (EscapedDashDash last) 0 text
-unfolding read step again look
+unfolding read step look_again look
 escaped_second last text = refl
 
 escaped_third : (last text : List ℕ) → read (EscapedDashDash last) 0 (45 ∷ text) ≡ Char 45 ∷ read (EscapedDashDash last) 0 text
-unfolding read step again look
+unfolding read step look_again look
 escaped_third last text = refl
 
 escaped_other : (last : List ℕ) (c : ℕ) (text : List ℕ) → (c == 45) ≡ false → read (EscapedDash last) 0 (c ∷ text) ≡ read (Raw Escaped last) 0 (c ∷ text)
-unfolding read step again look
+unfolding read step look_again look
 escaped_other last c text h = rw h refl
 
 escaped_unclosed : (last : List ℕ) (c : ℕ) (text : List ℕ) → (c == 45) ≡ false → (c == 62) ≡ false → read (EscapedDashDash last) 0 (c ∷ text) ≡ read (Raw Escaped last) 0 (c ∷ text)
-unfolding read step again look
+unfolding read step look_again look
 escaped_unclosed last c text h g = rw (h, g) refl
 
 escaped_over : (last : List ℕ) → read (EscapedDash last) 0 [] ≡ read (Raw Escaped last) 0 []
-unfolding read at_end
+unfolding read tokens_at_end
 escaped_over last = refl
 
 escaped_over_too : (last : List ℕ) → read (EscapedDashDash last) 0 [] ≡ read (EscapedDash last) 0 []
-unfolding read at_end
+unfolding read tokens_at_end
 escaped_over_too last = refl
 
 pub escaped_dashes : (last : List ℕ) → Dashes (Raw Escaped last) (EscapedDash last) (EscapedDashDash last)
@@ -103,31 +103,31 @@ escaped_dashes last = record {
 }
 
 double_dash : (last text : List ℕ) → read (DoubleEscaped last) 0 (45 ∷ text) ≡ Char 45 ∷ read (DoubleDash last) 0 text
-unfolding read step again look
+unfolding read step look_again look
 double_dash last text = refl
 
 double_second : (last text : List ℕ) → read (DoubleDash last) 0 (45 ∷ text) ≡ Char 45 ∷ read (DoubleDashDash last) 0 text
-unfolding read step again look
+unfolding read step look_again look
 double_second last text = refl
 
 double_third : (last text : List ℕ) → read (DoubleDashDash last) 0 (45 ∷ text) ≡ Char 45 ∷ read (DoubleDashDash last) 0 text
-unfolding read step again look
+unfolding read step look_again look
 double_third last text = refl
 
 double_other : (last : List ℕ) (c : ℕ) (text : List ℕ) → (c == 45) ≡ false → read (DoubleDash last) 0 (c ∷ text) ≡ read (DoubleEscaped last) 0 (c ∷ text)
-unfolding read step again look
+unfolding read step look_again look
 double_other last c text h = rw h refl
 
 double_unclosed : (last : List ℕ) (c : ℕ) (text : List ℕ) → (c == 45) ≡ false → (c == 62) ≡ false → read (DoubleDashDash last) 0 (c ∷ text) ≡ read (DoubleEscaped last) 0 (c ∷ text)
-unfolding read step again look
+unfolding read step look_again look
 double_unclosed last c text h g = rw (h, g) refl
 
 double_over : (last : List ℕ) → read (DoubleDash last) 0 [] ≡ read (DoubleEscaped last) 0 []
-unfolding read at_end
+unfolding read tokens_at_end
 double_over last = refl
 
 double_over_too : (last : List ℕ) → read (DoubleDashDash last) 0 [] ≡ read (DoubleDash last) 0 []
-unfolding read at_end
+unfolding read tokens_at_end
 double_over_too last = refl
 
 pub double_dashes : (last : List ℕ) → Dashes (DoubleEscaped last) (DoubleDash last) (DoubleDashDash last)
@@ -161,7 +161,7 @@ inner : (c : ℕ) → is_inner c ≡ true → ((c == 45) ≡ false) × ((c == 62
 unfolding is_inner
 inner c h = (grind (arith, nat_tests), grind (arith, nat_tests))
 
-after_two : (S D DD : State) → Dashes S D DD → (bytes : List ℕ) → IsUtf8 bytes → begins (62 ∷ []) bytes ≡ false → read DD 0 (input bytes) ≡ read D 0 (input bytes)
+after_two : (S D DD : State) → Dashes S D DD → (bytes : List ℕ) → IsUtf8 bytes → begins_with (62 ∷ []) bytes ≡ false → read DD 0 (input bytes) ≡ read D 0 (input bytes)
 after_two S D DD d [] utf8 h = rw input-nil d.over_too
 after_two S D DD d (b ∷ bytes) utf8 h = elim (cases_Bool (b == 45)) [
   | inl is ↦
@@ -174,12 +174,12 @@ after_two S D DD d (b ∷ bytes) utf8 h = elim (cases_Bool (b == 45)) [
       rw f.is (d.unclosed f.char f.rest i.0 i.1 ∙ sym (d.other f.char f.rest i.0))
 ]
 
-after_one : (S D DD : State) → Dashes S D DD → (bytes : List ℕ) → IsUtf8 bytes → begins (45 ∷ 62 ∷ []) bytes ≡ false → read D 0 (input bytes) ≡ read S 0 (input bytes)
+after_one : (S D DD : State) → Dashes S D DD → (bytes : List ℕ) → IsUtf8 bytes → begins_with (45 ∷ 62 ∷ []) bytes ≡ false → read D 0 (input bytes) ≡ read S 0 (input bytes)
 after_one S D DD d [] utf8 h = rw input-nil d.over
 after_one S D DD d (b ∷ bytes) utf8 h = elim (cases_Bool (b == 45)) [
   | inl is ↦
       let e : b ≡ 45 = eqb-true b 45 is in
-      let none : begins (62 ∷ []) bytes ≡ false = (rw e at h) in
+      let none : begins_with (62 ∷ []) bytes ≡ false = (rw e at h) in
       rw (e, input-hyphen bytes) (d.second (input bytes) ∙ ap (λ (l : List Token). Char 45 ∷ l) (after_two S D DD d bytes (utf8_tail b bytes (omega (arith, e)) utf8) none) ∙ sym (d.dash (input bytes)))
   | inr other ↦
       let f = first_not 45 b bytes (omega arith) refl utf8 other in
@@ -187,49 +187,49 @@ after_one S D DD d (b ∷ bytes) utf8 h = elim (cases_Bool (b == 45)) [
 ]
 
 -- a hyphen that ends no escape
-pub hyphen_text : (S D DD : State) → Dashes S D DD → (bytes : List ℕ) → IsUtf8 bytes → begins (45 ∷ 45 ∷ 62 ∷ []) (45 ∷ bytes) ≡ false → read S 0 (input (45 ∷ bytes)) ≡ Char 45 ∷ read S 0 (input bytes)
+pub hyphen_text : (S D DD : State) → Dashes S D DD → (bytes : List ℕ) → IsUtf8 bytes → begins_with (45 ∷ 45 ∷ 62 ∷ []) (45 ∷ bytes) ≡ false → read S 0 (input (45 ∷ bytes)) ≡ Char 45 ∷ read S 0 (input bytes)
 hyphen_text S D DD d bytes utf8 h = ap (read S 0) (input-hyphen bytes) ∙ d.dash (input bytes) ∙ ap (λ (l : List Token). Char 45 ∷ l) (after_one S D DD d bytes utf8 h)
 
 -- ---- a `<` in a script that is not escaped
 
 script_nil : (last : List ℕ) → read (Raw Script last) 0 (60 ∷ []) ≡ Char 60 ∷ read (Raw Script last) 0 []
-unfolding read step again look at_end
+unfolding read step look_again look tokens_at_end
 script_nil last = refl
 
 script_less : (last text : List ℕ) → read (Raw Script last) 0 (60 ∷ text) ≡ read (RawLess Script last) 0 text
-unfolding read step again look
+unfolding read step look_again look
 script_less last text = refl
 
-look_script_less : (last : List ℕ) (c : ℕ) (text : List ℕ) → (c == 47) ≡ false → (c == 33) ≡ false → look (RawLess Script last) c text ≡ Again (Raw Script last) (Char 60 ∷ [])
+look_script_less : (last : List ℕ) (c : ℕ) (text : List ℕ) → (c == 47) ≡ false → (c == 33) ≡ false → look (RawLess Script last) c text ≡ ReconsumeIn (Raw Script last) (Char 60 ∷ [])
 unfolding look
 look_script_less last c text a b = rw (a, b) refl
 
 script_bang : (last text : List ℕ) → read (Raw Script last) 0 (60 ∷ 33 ∷ text) ≡ Char 60 ∷ Char 33 ∷ read (EscapeStart last) 0 text
-unfolding read step again look
+unfolding read step look_again look
 script_bang last text = refl
 
-pub script_keeps : (last : List ℕ) (c : ℕ) (text : List ℕ) → (c == 60) ≡ false → read (Raw Script last) 0 (c ∷ text) ≡ Char (shown c) ∷ read (Raw Script last) 0 text
-unfolding read step again look
+pub script_keeps : (last : List ℕ) (c : ℕ) (text : List ℕ) → (c == 60) ≡ false → read (Raw Script last) 0 (c ∷ text) ≡ Char (replace_null c) ∷ read (Raw Script last) 0 text
+unfolding read step look_again look
 script_keeps last c text h = rw h refl
 
 start_dash : (last text : List ℕ) → read (EscapeStart last) 0 (45 ∷ text) ≡ Char 45 ∷ read (EscapeStartDash last) 0 text
-unfolding read step again look
+unfolding read step look_again look
 start_dash last text = refl
 
-look_start : (last : List ℕ) (c : ℕ) (text : List ℕ) → (c == 45) ≡ false → look (EscapeStart last) c text ≡ Again (Raw Script last) []
+look_start : (last : List ℕ) (c : ℕ) (text : List ℕ) → (c == 45) ≡ false → look (EscapeStart last) c text ≡ ReconsumeIn (Raw Script last) []
 unfolding look
 look_start last c text h = rw h refl
 
-look_start_dash : (last : List ℕ) (c : ℕ) (text : List ℕ) → (c == 45) ≡ false → look (EscapeStartDash last) c text ≡ Again (Raw Script last) []
+look_start_dash : (last : List ℕ) (c : ℕ) (text : List ℕ) → (c == 45) ≡ false → look (EscapeStartDash last) c text ≡ ReconsumeIn (Raw Script last) []
 unfolding look
 look_start_dash last c text h = rw h refl
 
 start_over : (last : List ℕ) → (read (EscapeStart last) 0 [] ≡ read (Raw Script last) 0 []) × (read (EscapeStartDash last) 0 [] ≡ read (Raw Script last) 0 [])
-unfolding read at_end
+unfolding read tokens_at_end
 start_over last = (refl, refl)
 
 -- after `<!-`, where no second hyphen follows
-one_hyphen : (last bytes : List ℕ) → IsUtf8 bytes → begins (45 ∷ []) bytes ≡ false → read (EscapeStartDash last) 0 (input bytes) ≡ read (Raw Script last) 0 (input bytes)
+one_hyphen : (last bytes : List ℕ) → IsUtf8 bytes → begins_with (45 ∷ []) bytes ≡ false → read (EscapeStartDash last) 0 (input bytes) ≡ read (Raw Script last) 0 (input bytes)
 one_hyphen last [] utf8 h = rw input-nil (start_over last).1
 one_hyphen last (b ∷ bytes) utf8 h =
     let other : (b == 45) ≡ false = grind (arith, nat_tests) in
@@ -237,19 +237,19 @@ one_hyphen last (b ∷ bytes) utf8 h =
     rw f.is (reconsumed (EscapeStartDash last) (Raw Script last) [] f.char f.rest (look_start_dash last f.char f.rest (it_is_not 45 f.char f.passes)))
 
 -- after `<!`, where no two hyphens follow
-no_hyphens : (last bytes : List ℕ) → IsUtf8 bytes → begins (45 ∷ 45 ∷ []) bytes ≡ false → read (EscapeStart last) 0 (input bytes) ≡ read (Raw Script last) 0 (input bytes)
+no_hyphens : (last bytes : List ℕ) → IsUtf8 bytes → begins_with (45 ∷ 45 ∷ []) bytes ≡ false → read (EscapeStart last) 0 (input bytes) ≡ read (Raw Script last) 0 (input bytes)
 no_hyphens last [] utf8 h = rw input-nil (start_over last).0
 no_hyphens last (b ∷ bytes) utf8 h = elim (cases_Bool (b == 45)) [
   | inl is ↦
       let e : b ≡ 45 = eqb-true b 45 is in
-      let none : begins (45 ∷ []) bytes ≡ false = (rw e at h) in
+      let none : begins_with (45 ∷ []) bytes ≡ false = (rw e at h) in
       rw (e, input-hyphen bytes) (start_dash last (input bytes) ∙ ap (λ (l : List Token). Char 45 ∷ l) (one_hyphen last bytes (utf8_tail b bytes (omega (arith, e)) utf8) none) ∙ sym (script_keeps last 45 (input bytes) refl))
   | inr other ↦
       let f = first_not 45 b bytes (omega arith) refl utf8 other in
       rw f.is (reconsumed (EscapeStart last) (Raw Script last) [] f.char f.rest (look_start last f.char f.rest (it_is_not 45 f.char f.passes)))
 ]
 
-bang_text : (last bytes : List ℕ) → IsUtf8 bytes → begins (60 ∷ 33 ∷ 45 ∷ 45 ∷ []) (60 ∷ 33 ∷ bytes) ≡ false → read (Raw Script last) 0 (input (60 ∷ 33 ∷ bytes)) ≡ Char 60 ∷ read (Raw Script last) 0 (input (33 ∷ bytes))
+bang_text : (last bytes : List ℕ) → IsUtf8 bytes → begins_with (60 ∷ 33 ∷ 45 ∷ 45 ∷ []) (60 ∷ 33 ∷ bytes) ≡ false → read (Raw Script last) 0 (input (60 ∷ 33 ∷ bytes)) ≡ Char 60 ∷ read (Raw Script last) 0 (input (33 ∷ bytes))
 bang_text last bytes utf8 h =
     rw (input-less (33 ∷ bytes), input-bang bytes) (
     script_bang last (input bytes)
@@ -283,7 +283,7 @@ less_other last b bytes utf8 h g =
     ap (read (Raw Script last) 0) (input-less (b ∷ bytes))
     ∙ (rw f.is (script_less last (f.char ∷ f.rest) ∙ reconsumed (RawLess Script last) (Raw Script last) (Char 60 ∷ []) f.char f.rest (look_script_less last f.char f.rest u.0 u.1)))
 
-pub less_text : (last bytes : List ℕ) → IsUtf8 bytes → named (60 ∷ 47 ∷ last) (60 ∷ bytes) ≡ false → begins (60 ∷ 33 ∷ 45 ∷ 45 ∷ []) (60 ∷ bytes) ≡ false → read (Raw Script last) 0 (input (60 ∷ bytes)) ≡ Char 60 ∷ read (Raw Script last) 0 (input bytes)
+pub less_text : (last bytes : List ℕ) → IsUtf8 bytes → named (60 ∷ 47 ∷ last) (60 ∷ bytes) ≡ false → begins_with (60 ∷ 33 ∷ 45 ∷ 45 ∷ []) (60 ∷ bytes) ≡ false → read (Raw Script last) 0 (input (60 ∷ bytes)) ≡ Char 60 ∷ read (Raw Script last) 0 (input bytes)
 less_text last [] utf8 h g = rw (input-less [], input-nil) (script_nil last)
 less_text last (b ∷ bytes) utf8 h g = elim (cases_Bool (b == 47)) [
   | inl is ↦ slashed b bytes (eqb-true b 47 is) utf8 h
@@ -296,26 +296,26 @@ less_text last (b ∷ bytes) utf8 h g = elim (cases_Bool (b == 47)) [
     slashed : (b : ℕ) (bytes : List ℕ) → b ≡ 47 → IsUtf8 (b ∷ bytes) → named (60 ∷ 47 ∷ last) (60 ∷ b ∷ bytes) ≡ false → read (Raw Script last) 0 (input (60 ∷ b ∷ bytes)) ≡ Char 60 ∷ read (Raw Script last) 0 (input (b ∷ bytes))
     slashed b bytes e utf8 h = rw e (raw_solidus Script last bytes (utf8_tail b bytes (omega (arith, e)) utf8) (subst (λ (x : ℕ). named (60 ∷ 47 ∷ last) (60 ∷ x ∷ bytes) ≡ false) e h))
 
-    banged : (b : ℕ) (bytes : List ℕ) → b ≡ 33 → IsUtf8 (b ∷ bytes) → begins (60 ∷ 33 ∷ 45 ∷ 45 ∷ []) (60 ∷ b ∷ bytes) ≡ false → read (Raw Script last) 0 (input (60 ∷ b ∷ bytes)) ≡ Char 60 ∷ read (Raw Script last) 0 (input (b ∷ bytes))
-    banged b bytes e utf8 g = rw e (bang_text last bytes (utf8_tail b bytes (omega (arith, e)) utf8) (subst (λ (x : ℕ). begins (60 ∷ 33 ∷ 45 ∷ 45 ∷ []) (60 ∷ x ∷ bytes) ≡ false) e g))
+    banged : (b : ℕ) (bytes : List ℕ) → b ≡ 33 → IsUtf8 (b ∷ bytes) → begins_with (60 ∷ 33 ∷ 45 ∷ 45 ∷ []) (60 ∷ b ∷ bytes) ≡ false → read (Raw Script last) 0 (input (60 ∷ b ∷ bytes)) ≡ Char 60 ∷ read (Raw Script last) 0 (input (b ∷ bytes))
+    banged b bytes e utf8 g = rw e (bang_text last bytes (utf8_tail b bytes (omega (arith, e)) utf8) (subst (λ (x : ℕ). begins_with (60 ∷ 33 ∷ 45 ∷ 45 ∷ []) (60 ∷ x ∷ bytes) ≡ false) e g))
 
 -- ---- a `<` in an escaped script
 
 escaped_nil : (last : List ℕ) → read (Raw Escaped last) 0 (60 ∷ []) ≡ Char 60 ∷ read (Raw Escaped last) 0 []
-unfolding read step again look at_end
+unfolding read step look_again look tokens_at_end
 escaped_nil last = refl
 
 escaped_less : (last text : List ℕ) → read (Raw Escaped last) 0 (60 ∷ text) ≡ read (EscapedLess last) 0 text
-unfolding read step again look
+unfolding read step look_again look
 escaped_less last text = refl
 
-look_escaped_letter : (last : List ℕ) (c : ℕ) (text : List ℕ) → is_letter c ≡ true → look (EscapedLess last) c text ≡ Again (DoubleStart last []) (Char 60 ∷ [])
+look_escaped_letter : (last : List ℕ) (c : ℕ) (text : List ℕ) → is_letter c ≡ true → look (EscapedLess last) c text ≡ ReconsumeIn (DoubleStart last []) (Char 60 ∷ [])
 unfolding look
 look_escaped_letter last c text h =
     let other : (c == 47) ≡ false = grind (arith, nat_tests) in
     rw (other, h) refl
 
-look_escaped_other : (last : List ℕ) (c : ℕ) (text : List ℕ) → (c == 47) ≡ false → is_letter c ≡ false → look (EscapedLess last) c text ≡ Again (Raw Escaped last) (Char 60 ∷ [])
+look_escaped_other : (last : List ℕ) (c : ℕ) (text : List ℕ) → (c == 47) ≡ false → is_letter c ≡ false → look (EscapedLess last) c text ≡ ReconsumeIn (Raw Escaped last) (Char 60 ∷ [])
 unfolding look
 look_escaped_other last c text h g = rw (h, g) refl
 
@@ -367,22 +367,22 @@ escaped_text last (b ∷ bytes) utf8 h g = elim (cases_Bool (b == 47)) [
 -- ---- a `<` in a double escape
 
 pub double_less : (last text : List ℕ) → read (DoubleEscaped last) 0 (60 ∷ text) ≡ Char 60 ∷ read (DoubleLess last) 0 text
-unfolding read step again look
+unfolding read step look_again look
 double_less last text = refl
 
 pub double_solidus : (last text : List ℕ) → read (DoubleLess last) 0 (47 ∷ text) ≡ Char 47 ∷ read (DoubleEnd last []) 0 text
-unfolding read step again look
+unfolding read step look_again look
 double_solidus last text = refl
 
 double_keeps_solidus : (last text : List ℕ) → read (DoubleEscaped last) 0 (47 ∷ text) ≡ Char 47 ∷ read (DoubleEscaped last) 0 text
-unfolding read step again look
+unfolding read step look_again look
 double_keeps_solidus last text = refl
 
 double_less_nil : (last : List ℕ) → read (DoubleLess last) 0 [] ≡ read (DoubleEscaped last) 0 []
-unfolding read at_end
+unfolding read tokens_at_end
 double_less_nil last = refl
 
-look_double_less : (last : List ℕ) (c : ℕ) (text : List ℕ) → (c == 47) ≡ false → look (DoubleLess last) c text ≡ Again (DoubleEscaped last) []
+look_double_less : (last : List ℕ) (c : ℕ) (text : List ℕ) → (c == 47) ≡ false → look (DoubleLess last) c text ≡ ReconsumeIn (DoubleEscaped last) []
 unfolding look
 look_double_less last c text h = rw h refl
 

@@ -6,12 +6,12 @@ use Rattle.std.proofs.lemmas.List.{map-append, take-append-drop, drop-drop, drop
 use Rattle.std.proofs.Math.Seq.{take-add}
 use Rattle.std.proofs.lemmas.Str.{IsUtf8-take}
 use Rattle.std.specs.List.{list_all}
-use Rattle.html_tokens.specs.Token.{Token}
-use Rattle.html_tokens.specs.States.{State, shown}
-use Rattle.html_tokens.specs.States.Kind.{Script, Escaped}
-use Rattle.html_tokens.specs.States.State.{Data, Raw, DoubleEscaped}
-use Rattle.html_tokens.specs.Tokenizer.{read, at_end, chars}
-use Rattle.html_tokens.specs.Input.{input}
+use Rattle.html_syntax.specs.Token.{Token}
+use Rattle.html_syntax.specs.States.{State, replace_null}
+use Rattle.html_syntax.specs.States.RawTextKind.{Script, Escaped}
+use Rattle.html_syntax.specs.States.State.{Data, Raw, DoubleEscaped}
+use Rattle.html_syntax.specs.Tokenizer.{read, tokens_at_end, chars}
+use Rattle.html_references.specs.Input.{input}
 use Rattle.html_tokens.specs.Cuts.{Lacks, BeginsWith}
 use Rattle.html_tokens.specs.Contents.{closes}
 use Rattle.html_tokens.specs.Scripts.{script_state, Reads, ends_script, IsMark, LacksMarks}
@@ -20,7 +20,7 @@ use Rattle.html_tokens.specs.declared.script.Phase.{Phase}
 use Rattle.html_tokens.specs.declared.script.Phase.TheVariants as phase
 use Rattle.html_tokens.proofs.Runs.{emits, emits-more, run, Keeps}
 use Rattle.html_tokens.proofs.TextRuns.{is_plain, all_plain}
-use Rattle.html_tokens.proofs.Stretches.{PassesWide, all-input, input-nil, input-append, input-append_plain, IsMarked}
+use Rattle.html_references.proofs.Stretches.{PassesWide, all-input, input-nil, input-append, input-append_plain, IsMarked}
 use Rattle.html_tokens.proofs.RawRuns.{raw_nil, content_closed}
 use Rattle.html_tokens.proofs.EndTags.{closed}
 use Rattle.html_tokens.proofs.DoubleEscapes.{escaped_keeps, double_keeps}
@@ -55,25 +55,25 @@ mark_marked [] h = tt
 mark_marked (b ∷ text) (inl e) = (omega (arith, e), λ (x : b ≡ 10). omega (arith, e, x))
 mark_marked (b ∷ text) (inr e) = (omega (arith, e), λ (x : b ≡ 10). omega (arith, e, x))
 
-run_on : (s : State) (p : ℕ → Bool) → Keeps (emits s) p shown → (text : List ℕ) (n : ℕ) → IsUtf8 (take n text) → list_all p (input (take n text)) ≡ true → IsMarked (drop n text)
-    → read s 0 (input text) ≡ chars (map shown (input (take n text))) ++ read s 0 (input (drop n text))
+run_on : (s : State) (p : ℕ → Bool) → Keeps (emits s) p replace_null → (text : List ℕ) (n : ℕ) → IsUtf8 (take n text) → list_all p (input (take n text)) ≡ true → IsMarked (drop n text)
+    → read s 0 (input text) ≡ chars (map replace_null (input (take n text))) ++ read s 0 (input (drop n text))
 run_on s p keeps text n utf8 all marked =
     ap (λ (l : List ℕ). read s 0 (input l)) (sym (take-append-drop n text))
     ∙ ap (read s 0) (input-append (take n text) (drop n text) utf8 marked)
-    ∙ run (emits s) p shown keeps [] (input (take n text)) (input (drop n text)) all
+    ∙ run (emits s) p replace_null keeps [] (input (take n text)) (input (drop n text)) all
 
-plain_keeps : Keeps (emits (Raw Script script)) is_plain shown
-plain_keeps kept c text h = ap (λ (l : List Token). chars kept ++ l) (script_keeps script c text (not-true (c == 60) h)) ∙ emits-more (Raw Script script) kept (shown c ∷ []) 0 text
+plain_keeps : Keeps (emits (Raw Script script)) is_plain replace_null
+plain_keeps kept c text h = ap (λ (l : List Token). chars kept ++ l) (script_keeps script c text (not-true (c == 60) h)) ∙ emits-more (Raw Script script) kept (replace_null c ∷ []) 0 text
 
-escaped_kept : Keeps (emits (Raw Escaped script)) is_unmarked shown
+escaped_kept : Keeps (emits (Raw Escaped script)) is_unmarked replace_null
 escaped_kept kept c text h =
     let u = unmarked c h in
-    ap (λ (l : List Token). chars kept ++ l) (escaped_keeps script c text u.0 u.1) ∙ emits-more (Raw Escaped script) kept (shown c ∷ []) 0 text
+    ap (λ (l : List Token). chars kept ++ l) (escaped_keeps script c text u.0 u.1) ∙ emits-more (Raw Escaped script) kept (replace_null c ∷ []) 0 text
 
-double_kept : Keeps (emits (DoubleEscaped script)) is_unmarked shown
+double_kept : Keeps (emits (DoubleEscaped script)) is_unmarked replace_null
 double_kept kept c text h =
     let u = unmarked c h in
-    ap (λ (l : List Token). chars kept ++ l) (double_keeps script c text u.0 u.1) ∙ emits-more (DoubleEscaped script) kept (shown c ∷ []) 0 text
+    ap (λ (l : List Token). chars kept ++ l) (double_keeps script c text u.0 u.1) ∙ emits-more (DoubleEscaped script) kept (replace_null c ∷ []) 0 text
 
 pub less_is_mark : (text : List ℕ) → BeginsWith 60 text → IsMark text
 less_is_mark [] h = tt
@@ -108,9 +108,9 @@ two_parts p q r text n m cut first second =
     let two = input (take m (drop n text)) in
     let whole : input (take (n + m) text) ≡ one ++ two = ap input (take-add n m text) ∙ cut in
     first
-    ∙ ap (λ (l : List Token). chars (map shown one) ++ l) (second ∙ ap (λ (l : List ℕ). chars (map shown two) ++ read ends 0 (input l)) (drop-drop m n text))
-    ∙ emits-more ends (map shown one) (map shown two) 0 back
-    ∙ ap (λ (l : List ℕ). chars l ++ read ends 0 back) (sym (map-append shown one two) ∙ ap (map shown) (sym whole))
+    ∙ ap (λ (l : List Token). chars (map replace_null one) ++ l) (second ∙ ap (λ (l : List ℕ). chars (map replace_null two) ++ read ends 0 (input l)) (drop-drop m n text))
+    ∙ emits-more ends (map replace_null one) (map replace_null two) 0 back
+    ∙ ap (λ (l : List ℕ). chars l ++ read ends 0 back) (sym (map-append replace_null one two) ∙ ap (map replace_null) (sym whole))
 
 -- where the first part has no carriage return
 pub plain_parts : (p q r : Phase) (text : List ℕ) (n m : ℕ) → IsUtf8 text → IsCharBoundary text n → Lacks 13 (take n text) → Reads p text n q → Reads q (drop n text) m r → Reads p text (n + m) r
@@ -130,7 +130,7 @@ marked_parts p q r text n m utf8 cut mark first second =
 -- ---- where a script ends
 
 double_nil : (last : List ℕ) → read (DoubleEscaped last) 0 [] ≡ read Data 0 []
-unfolding read at_end
+unfolding read tokens_at_end
 double_nil last = refl
 
 phase_nil : (p : Phase) → read (script_state p) 0 [] ≡ read Data 0 []

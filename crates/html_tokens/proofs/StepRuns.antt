@@ -2,14 +2,15 @@
 use Rattle.std.proofs.Common.{◌≡◌, ℕ, zero, suc, ◌+◌, ◌-◌, ◌<◌, ◌≤◌, Bool, true, false, ◌&&◌, ◌==◌, List, [], ◌∷◌, ◌++◌, length, map, take, drop, refl, sym, ap, subst, ◌∙◌, append-nil, arith, IsUtf8, IsCharBoundary, Option, Some, None, inl, inr}
 use Rattle.std.proofs.lemmas.List.{drop-drop, length-drop, take_all, drop_all, nil_from_length}
 use Rattle.std.proofs.lemmas.Str.{IsCharBoundary-from_rest, IsCharBoundary-start}
-use Rattle.html_tokens.specs.Token.{Attribute, Token}
-use Rattle.html_tokens.specs.Token.Token.{Start, End, Comment, Doctype}
+use Rattle.html_syntax.specs.Token.{Attribute, Token}
+use Rattle.html_syntax.specs.Token.Token.{Start, End, Comment, Doctype}
 use Rattle.std.proofs.lemmas.Bool.{and_parts, eqb-true, both_ways, cases_lt}
-use Rattle.html_tokens.specs.Characters.{is_letter, lower}
-use Rattle.html_tokens.specs.States.{Tag, State, new_tag, after_start, shown}
-use Rattle.html_tokens.specs.States.State.{Data, TagName, BeforeName, Plaintext}
-use Rattle.html_tokens.specs.Tokenizer.{read, step, again, look, at_end, chars}
-use Rattle.html_tokens.specs.Input.{input, named_by, with_attributes, ended, read_as, decoded}
+use Rattle.html_syntax.specs.Characters.{is_letter, lower}
+use Rattle.html_syntax.specs.States.{Tag, State, new_tag, state_after_start, replace_null}
+use Rattle.html_syntax.specs.States.State.{Data, TagName, BeforeName, Plaintext}
+use Rattle.html_syntax.specs.Tokenizer.{read, step, look_again, look, tokens_at_end, chars}
+use Rattle.html_references.specs.Input.{input, read_as, decode_references}
+use Rattle.html_tokens.specs.Tags.{named_by, with_attributes, ended}
 use Rattle.html_tokens.specs.Scanned.{state_in, part_tokens, between, GivesToken, Holds, opens_markup, opens_start, opens_end, part_bound, part_moved}
 use Rattle.html_tokens.specs.Stepping.{RunEnds, NoMarkup, Passes, RunBegins, RunLeaves, RunsStandApart, tokens_in, StepsTo, MovesTo, Moves, run_step}
 use Rattle.html_tokens.specs.declared.mode.Content.{Content}
@@ -18,11 +19,11 @@ use Rattle.html_tokens.specs.declared.mode.Mode.TheVariants as mode
 use Rattle.html_tokens.specs.declared.span.Part.{Part}
 use Rattle.html_tokens.specs.declared.span.Part.TheVariants as part
 use Rattle.html_tokens.specs.declared.span.Span.{Span}
-use Rattle.html_tokens.specs.declared.stretch.ReadAs.{ReadAs}
-use Rattle.html_tokens.specs.declared.stretch.ReadAs.TheVariants as reads
+use Rattle.html_references.specs.declared.stretch.ReadAs.{ReadAs}
+use Rattle.html_references.specs.declared.stretch.ReadAs.TheVariants as reads
 use Rattle.html_tokens.specs.declared.step.Step.{Step}
 use Rattle.html_tokens.proofs.Runs.{emits, emits-more, run}
-use Rattle.html_tokens.proofs.Stretches.{input-nil}
+use Rattle.html_references.proofs.Stretches.{input-nil}
 use Rattle.std.specs.List.{list_all}
 
 -- ---- tags
@@ -62,23 +63,23 @@ pub start_read : (rest : List ℕ) (len n : ℕ) (m : Mode) (attributes : List A
     → ((tag : Tag) → read (TagName tag) 0 (input (drop 1 rest)) ≡ read (BeforeName (named_by tag (input (take len (drop 1 rest))))) 0 (input (drop len (drop 1 rest))))
     → read (BeforeName (named_by (new_tag false) (input (take len (drop 1 rest))))) 0 (input (drop len (drop 1 rest)))
     ≡ ended (with_attributes (named_by (new_tag false) (input (take len (drop 1 rest)))) attributes) (input (drop n (drop len (drop 1 rest))))
-    → state_in m ≡ after_start (map lower (map shown (input (take len (drop 1 rest)))))
-    → read Data 0 (input rest) ≡ Start (map lower (map shown (input (take len (drop 1 rest))))) attributes ∷ tokens_in m (drop n (drop len (drop 1 rest)))
+    → state_in m ≡ state_after_start (map lower (map replace_null (input (take len (drop 1 rest)))))
+    → read Data 0 (input rest) ≡ Start (map lower (map replace_null (input (take len (drop 1 rest))))) attributes ∷ tokens_in m (drop n (drop len (drop 1 rest)))
 start_read rest len n m attributes opens named closes mode_is =
-    let name = map lower (map shown (input (take len (drop 1 rest)))) in
+    let name = map lower (map replace_null (input (take len (drop 1 rest)))) in
     opens ∙ named (new_tag false) ∙ closes ∙ ap (λ (s : State). Start name attributes ∷ read s 0 (input (drop n (drop len (drop 1 rest))))) (sym mode_is)
 
 pub end_read : (rest : List ℕ) (len n : ℕ) (attributes : List Attribute) → read Data 0 (input rest) ≡ read (TagName (new_tag true)) 0 (input (drop 2 rest))
     → ((tag : Tag) → read (TagName tag) 0 (input (drop 2 rest)) ≡ read (BeforeName (named_by tag (input (take len (drop 2 rest))))) 0 (input (drop len (drop 2 rest))))
     → read (BeforeName (named_by (new_tag true) (input (take len (drop 2 rest))))) 0 (input (drop len (drop 2 rest)))
     ≡ ended (with_attributes (named_by (new_tag true) (input (take len (drop 2 rest)))) attributes) (input (drop n (drop len (drop 2 rest))))
-    → read Data 0 (input rest) ≡ End (map lower (map shown (input (take len (drop 2 rest))))) ∷ tokens_in mode.Data (drop n (drop len (drop 2 rest)))
+    → read Data 0 (input rest) ≡ End (map lower (map replace_null (input (take len (drop 2 rest))))) ∷ tokens_in mode.Data (drop n (drop len (drop 2 rest)))
 end_read rest len n attributes opens named closes = opens ∙ named (new_tag true) ∙ closes
 
 -- ---- comments and DOCTYPEs
 
 pub comment_found : (rest : List ℕ) (k len end : ℕ) → IsUtf8 rest → IsCharBoundary rest k → 0 < k → IsCharBoundary (drop k rest) len → IsCharBoundary (drop k rest) end → len ≤ end
-    → read Data 0 (input rest) ≡ Comment (map shown (input (take len (drop k rest)))) ∷ read Data 0 (input (drop end (drop k rest)))
+    → read Data 0 (input rest) ≡ Comment (map replace_null (input (take len (drop k rest)))) ∷ read Data 0 (input (drop end (drop k rest)))
     → StepsTo rest mode.Data (record { span = record { start = 0; end = k + end; part = part.Comment k (k + len) }; at = k + end; mode = mode.Data })
 comment_found rest k len end utf8 cut some len_cut end_cut ordered reads =
     let past = IsCharBoundary-from_rest rest k end cut.0 end_cut in
@@ -86,8 +87,8 @@ comment_found rest k len end utf8 cut some len_cut end_cut ordered reads =
     record {
       reads =
           reads
-          ∙ ap (λ (n : ℕ). Comment (map shown (input (take n (drop k rest)))) ∷ read Data 0 (input (drop end (drop k rest)))) (sym inner)
-          ∙ ap (λ (l : List ℕ). Comment (map shown (input (between k (k + len) rest))) ∷ read Data 0 (input l)) (drop-drop end k rest);
+          ∙ ap (λ (n : ℕ). Comment (map replace_null (input (take n (drop k rest)))) ∷ read Data 0 (input (drop end (drop k rest)))) (sym inner)
+          ∙ ap (λ (l : List ℕ). Comment (map replace_null (input (between k (k + len) rest))) ∷ read Data 0 (input l)) (drop-drop end k rest);
       span = record { some = omega (arith, some); begins = IsCharBoundary-start rest utf8; ends = past; holds = (omega arith, cut, IsCharBoundary-from_rest rest k len cut.0 len_cut) };
       at = past;
       start = refl;
@@ -132,31 +133,31 @@ run_found r m rest end utf8 some cut reads ends begins =
     }
 
 data_nil : read Data 0 [] ≡ []
-unfolding read at_end
+unfolding read tokens_at_end
 data_nil = refl
 
 pub nothing_in_data : (rest : List ℕ) → length rest ≡ 0 → tokens_in mode.Data rest ≡ []
 nothing_in_data rest h = ap (λ (l : List ℕ). read Data 0 (input l)) (nil_from_length rest h) ∙ ap (read Data 0) input-nil ∙ data_nil
 
-plain_keeps : (kept : List ℕ) (c : ℕ) (text : List ℕ) → true ≡ true → emits Plaintext kept 0 (c ∷ text) ≡ emits Plaintext (kept ++ shown c ∷ []) 0 text
-unfolding read step again look
-plain_keeps kept c text h = emits-more Plaintext kept (shown c ∷ []) 0 text
+plain_keeps : (kept : List ℕ) (c : ℕ) (text : List ℕ) → true ≡ true → emits Plaintext kept 0 (c ∷ text) ≡ emits Plaintext (kept ++ replace_null c ∷ []) 0 text
+unfolding read step look_again look
+plain_keeps kept c text h = emits-more Plaintext kept (replace_null c ∷ []) 0 text
 
 all_true : (cs : List ℕ) → list_all (λ _. true) cs ≡ true
 all_true [] = refl
 all_true (c ∷ cs) = all_true cs
 
 plain_nil : read Plaintext 0 [] ≡ []
-unfolding read at_end
+unfolding read tokens_at_end
 plain_nil = refl
 
-plain_all : (cs : List ℕ) → read Plaintext 0 cs ≡ chars (map shown cs) ++ []
+plain_all : (cs : List ℕ) → read Plaintext 0 cs ≡ chars (map replace_null cs) ++ []
 plain_all cs =
     ap (read Plaintext 0) (sym (append-nil cs))
-    ∙ run (emits Plaintext) (λ _. true) shown plain_keeps [] cs [] (all_true cs)
-    ∙ ap (λ (l : List Token). chars (map shown cs) ++ l) plain_nil
+    ∙ run (emits Plaintext) (λ _. true) replace_null plain_keeps [] cs [] (all_true cs)
+    ∙ ap (λ (l : List Token). chars (map replace_null cs) ++ l) plain_nil
 
-pub plain_reads : (rest : List ℕ) → tokens_in mode.Plaintext rest ≡ chars (map shown (input (take (length rest) rest))) ++ read Data 0 (input (drop (length rest) rest))
+pub plain_reads : (rest : List ℕ) → tokens_in mode.Plaintext rest ≡ chars (map replace_null (input (take (length rest) rest))) ++ read Data 0 (input (drop (length rest) rest))
 plain_reads rest =
     let all : take (length rest) rest ≡ rest = take_all (length rest) rest (omega arith) in
     let none : read Data 0 (input (drop (length rest) rest)) ≡ [] = nothing_in_data (drop (length rest) rest) (ap length (drop_all (length rest) rest (omega arith))) in
@@ -176,7 +177,7 @@ pub tokens_moved : (text : List ℕ) (by start end : ℕ) (p : Part) → part_to
 tokens_moved text by start end (part.Run r) = ap (λ (l : List ℕ). chars (read_as r (input l))) (between_moved text by start end)
 tokens_moved text by start end part.StartTag = ap (λ (l : List ℕ). take 1 (read Data 0 (input l))) (drop-drop start by text)
 tokens_moved text by start end part.EndTag = ap (λ (l : List ℕ). take 1 (read Data 0 (input l))) (drop-drop start by text)
-tokens_moved text by start end (part.Comment from to) = ap (λ (l : List ℕ). Comment (map shown (input l)) ∷ []) (between_moved text by from to)
+tokens_moved text by start end (part.Comment from to) = ap (λ (l : List ℕ). Comment (map replace_null (input l)) ∷ []) (between_moved text by from to)
 tokens_moved text by start end part.Doctype = refl
 
 holds_moved : (text : List ℕ) (by start : ℕ) (p : Part) → by ≤ length text → Holds (drop by text) start p → Holds text (by + start) (part_moved by p)
@@ -274,14 +275,14 @@ moves_from text early late m n (Some s) le same begins passes h = record {
 }
 
 -- no characters are held by nothing
-none_decoded : (a : Bool) (plain : ℕ → ℕ) → decoded a plain 0 [] ≡ []
-unfolding decoded
+none_decoded : (a : Bool) (plain : ℕ → ℕ) → decode_references a plain 0 [] ≡ []
+unfolding decode_references
 none_decoded a plain = refl
 
 nothing_read : (r : ReadAs) → read_as r [] ≡ []
 nothing_read reads.Text = none_decoded false (λ c. c)
-nothing_read reads.Rcdata = none_decoded false shown
-nothing_read reads.Value = none_decoded true shown
+nothing_read reads.Rcdata = none_decoded false replace_null
+nothing_read reads.Value = none_decoded true replace_null
 nothing_read reads.Raw = refl
 
 pub nothing_held : (r : ReadAs) (more : List Token) → chars (read_as r (input [])) ++ more ≡ more

@@ -4,24 +4,24 @@ use Rattle.std.proofs.lemmas.Bool.{cases_Bool, cases_lt, eqb-true}
 use Rattle.std.proofs.lemmas.Bool.Decides.{nat_tests}
 use Rattle.std.proofs.lemmas.List.{drop-drop, drop_more, length-drop}
 use Rattle.std.proofs.lemmas.Str.{IsUtf8-take, IsCharBoundary-from_rest, IsCharBoundary-after_ascii}
-use Rattle.html_tokens.specs.Token.{Attribute}
-use Rattle.html_tokens.specs.Characters.{is_space}
-use Rattle.html_tokens.specs.States.{Tag, State, has_name, keep, keep_flag}
-use Rattle.html_tokens.specs.States.State.{BeforeName, AfterName, BeforeValue}
-use Rattle.html_tokens.specs.Tokenizer.{read}
-use Rattle.html_tokens.specs.Input.{input, decoded, with_attributes, ended}
+use Rattle.html_syntax.specs.Token.{Attribute}
+use Rattle.html_syntax.specs.Characters.{is_space}
+use Rattle.html_syntax.specs.States.{Tag, State, has_name, keep, keep_flag}
+use Rattle.html_syntax.specs.States.State.{BeforeName, AfterName, BeforeValue}
+use Rattle.html_syntax.specs.Tokenizer.{read}
+use Rattle.html_references.specs.Input.{input, decode_references}
 use Rattle.html_tokens.specs.Scanned.{between}
-use Rattle.html_tokens.specs.Tags.{belongs, name_read, value_read, BeginsOutside, BeginsAttribute, HoldsAttribute, FindsValue, EndsTag, EndsAfter, GivesTag, keeping, kept_among, attribute_at, ReadsUpTo}
+use Rattle.html_tokens.specs.Tags.{belongs, name_read, value_read, BeginsOutside, BeginsAttribute, HoldsAttribute, FindsValue, EndsTag, EndsAfter, GivesTag, keeping, kept_among, attribute_at, ReadsUpTo, with_attributes, ended}
 use Rattle.html_tokens.specs.declared.tags.AttributePlace.{AttributePlace}
 use Rattle.html_tokens.specs.declared.tags.Class.TheVariants as class
-use Rattle.html_tokens.proofs.Stretches.{input-nil, input-cons}
+use Rattle.html_references.proofs.Stretches.{input-nil, input-cons}
 use Rattle.html_tokens.proofs.TagRows.{before_space, before_solidus, before_end, before_nil}
 use Rattle.html_tokens.proofs.TagRuns.{IsSmall}
 use Rattle.html_tokens.proofs.TagNames.{named_flag}
 
 empty_value : value_read [] ≡ []
-unfolding decoded
-empty_value = ap (λ (l : List ℕ). decoded true Rattle.html_tokens.specs.States.shown 0 l) input-nil
+unfolding decode_references
+empty_value = ap (λ (l : List ℕ). decode_references true Rattle.html_syntax.specs.States.replace_null 0 l) input-nil
 
 none_between : (n : ℕ) (rest : List ℕ) → value_read (between n n rest) ≡ []
 none_between n rest =

@@ -3,25 +3,25 @@ use Rattle.std.proofs.Common.{◌≡◌, ◌≢◌, ℕ, zero, suc, ◌+◌, ◌
 use Rattle.std.proofs.lemmas.Bool.{cases_Bool, eqb-true, ne_eqb}
 use Rattle.std.proofs.lemmas.Bool.Decides.{nat_tests}
 use Rattle.std.specs.List.{prefix_len}
-use Rattle.html_tokens.specs.Characters.{is_space, lower}
-use Rattle.html_tokens.specs.States.{Tag, shown, keep, keep_flag}
-use Rattle.html_tokens.specs.States.State.{TagName, BeforeName, AttributeName, AfterName}
-use Rattle.html_tokens.specs.Tokenizer.{look, again, step, read}
-use Rattle.html_tokens.specs.Input.{input, named_by}
-use Rattle.html_tokens.specs.Tags.{belongs, name_read, BeginsAttribute}
+use Rattle.html_syntax.specs.Characters.{is_space, lower}
+use Rattle.html_syntax.specs.States.{Tag, replace_null, keep, keep_flag}
+use Rattle.html_syntax.specs.States.State.{TagName, BeforeName, AttributeName, AfterName}
+use Rattle.html_syntax.specs.Tokenizer.{look, look_again, step, read}
+use Rattle.html_references.specs.Input.{input}
+use Rattle.html_tokens.specs.Tags.{belongs, name_read, BeginsAttribute, named_by}
 use Rattle.html_tokens.specs.declared.tags.Class.TheVariants as class
 use Rattle.html_tokens.proofs.Runs.{Reader, Keeps}
-use Rattle.html_tokens.proofs.Stretches.{input-cons, input-first, utf8_tail}
+use Rattle.html_references.proofs.Stretches.{input-cons, input-first, utf8_tail}
 use Rattle.html_tokens.proofs.TagRows.{is_name_end, is_attribute_end, name_stops, name_nil, before_equals, before_name, attribute_keeps, attribute_nil, attribute_stops, after_nil}
 use Rattle.html_tokens.proofs.TagRuns.{IsWide, Leaves, kept, prefix_outside, at_stop, at_first, next_boundary}
 
 spelt : ℕ → ℕ
-spelt c = lower (shown c)
+spelt c = lower (replace_null c)
 
-twice : (cs : List ℕ) → map spelt cs ≡ map lower (map shown cs)
+twice : (cs : List ℕ) → map spelt cs ≡ map lower (map replace_null cs)
 unfolding spelt
 twice [] = refl
-twice (c ∷ cs) = ap (λ (l : List ℕ). lower (shown c) ∷ l) (twice cs)
+twice (c ∷ cs) = ap (λ (l : List ℕ). lower (replace_null c) ∷ l) (twice cs)
 
 -- ---- the tag's name
 
@@ -32,7 +32,7 @@ abbrev naming : Tag → Reader
 naming t k passing text = read (TagName (with_name t (t.name ++ k))) passing text
 
 name_row : (t : Tag) (c : ℕ) (text : List ℕ) → is_name_end c ≡ false → read (TagName t) 0 (c ∷ text) ≡ read (TagName (with_name t (t.name ++ spelt c ∷ []))) 0 text
-unfolding read step again look spelt
+unfolding read step look_again look spelt
 name_row t c text h =
     let a : is_space c ≡ false = grind (arith, nat_tests) in
     let b : (c == 47) ≡ false = grind (arith, nat_tests) in
@@ -98,7 +98,7 @@ begins_equals t bytes utf8 =
     ap (read (BeforeName t) 0) (equals bytes)
     ∙ before_equals t (input bytes)
     ∙ named_on t (61 ∷ []) bytes utf8
-    ∙ ap (λ (l : List ℕ). read (AfterName t (map lower (map shown l))) 0 (input (drop n bytes))) (sym (equals (take n bytes)))
+    ∙ ap (λ (l : List ℕ). read (AfterName t (map lower (map replace_null l))) 0 (input (drop n bytes))) (sym (equals (take n bytes)))
 
 begins_name : (t : Tag) (b : ℕ) (bytes : List ℕ) → IsUtf8 (b ∷ bytes) → belongs class.AttributeName b ≡ true
     → read (BeforeName t) 0 (input (b ∷ bytes))

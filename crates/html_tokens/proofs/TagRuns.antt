@@ -7,13 +7,13 @@ use Rattle.std.proofs.lemmas.List.{take_all, length-drop}
 use Rattle.std.proofs.lemmas.Str.{IsUtf8-take, IsCharBoundary-start, IsCharBoundary-after_ascii}
 use Rattle.std.specs.List.{list_all, prefix_len}
 use Rattle.std.specs.Str.{chars}
-use Rattle.html_tokens.specs.Token.{Token}
-use Rattle.html_tokens.specs.States.{State}
-use Rattle.html_tokens.specs.Tokenizer.{read, newlines}
-use Rattle.html_tokens.specs.Input.{input}
+use Rattle.html_syntax.specs.Token.{Token}
+use Rattle.html_syntax.specs.States.{State}
+use Rattle.html_syntax.specs.Tokenizer.{read, normalize_newlines}
+use Rattle.html_references.specs.Input.{input}
 use Rattle.html_tokens.specs.Tags.{BeginsOutside}
 use Rattle.html_tokens.proofs.Runs.{Reader, Keeps, run}
-use Rattle.html_tokens.proofs.Stretches.{PassesWide, input-first, input-cons, input-nil, input-return_feed, input-return_alone, input-cut_plain, all-input, boundary_at, utf8_tail}
+use Rattle.html_references.proofs.Stretches.{PassesWide, input-first, input-cons, input-nil, input-return_feed, input-return_alone, input-cut_plain, all-input, boundary_at, utf8_tail}
 
 -- ---- the bytes of a class with which a text begins
 
@@ -158,9 +158,9 @@ kept F p plain w keeps k bytes utf8 =
 
 -- the first character of a text that begins with an ASCII byte
 pub head_return : (bytes : List ℕ) → (more : List ℕ) × (input (13 ∷ bytes) ≡ 10 ∷ more)
-unfolding input newlines chars
+unfolding input normalize_newlines chars
 head_return [] = ([], refl)
-head_return (b ∷ bytes) = (newlines true (chars (b ∷ bytes)), refl)
+head_return (b ∷ bytes) = (normalize_newlines true (chars (b ∷ bytes)), refl)
 
 -- two readers that agree at the end of a text and at these characters
 pub record Agree (A B : List ℕ → List Token) (q : ℕ → Bool) : Type 0 where

@@ -1,18 +1,18 @@
 -- The tokens of tags.
 use Rattle.std.proofs.Common.{◌≡◌, ℕ, ◌-◌, Bool, List, [], ◌∷◌, take, drop, map, false, refl, sym, ap, ◌∙◌, arith, ◌⊎◌, inl, inr}
-use Rattle.html_tokens.specs.Token.{Attribute, Token}
-use Rattle.html_tokens.specs.Token.Token.{Start}
-use Rattle.html_tokens.specs.Characters.{lower}
-use Rattle.html_tokens.specs.States.{Tag, new_tag, shown, after_start}
-use Rattle.html_tokens.specs.States.State.{Data, TagName, BeforeName}
-use Rattle.html_tokens.specs.Tokenizer.{read}
-use Rattle.html_tokens.specs.Input.{input, named_by, with_attributes, ended}
+use Rattle.html_syntax.specs.Token.{Attribute, Token}
+use Rattle.html_syntax.specs.Token.Token.{Start}
+use Rattle.html_syntax.specs.Characters.{lower}
+use Rattle.html_syntax.specs.States.{Tag, new_tag, replace_null, state_after_start}
+use Rattle.html_syntax.specs.States.State.{Data, TagName, BeforeName}
+use Rattle.html_syntax.specs.Tokenizer.{read}
+use Rattle.html_references.specs.Input.{input}
 use Rattle.html_tokens.specs.Scanned.{GivesToken}
-use Rattle.html_tokens.specs.Tags.{GivesTag}
+use Rattle.html_tokens.specs.Tags.{GivesTag, named_by, with_attributes, ended}
 
 -- the name of the tag whose first bytes these are
 abbrev pub name_in : ℕ → List ℕ → List ℕ
-name_in len inside = map lower (map shown (input (take len inside)))
+name_in len inside = map lower (map replace_null (input (take len inside)))
 
 abbrev pub tag_in : Bool → ℕ → List ℕ → Tag
 tag_in is_end len inside = named_by (new_tag is_end) (input (take len inside))
@@ -37,10 +37,10 @@ after_name is_end rest inside after k len inside_is after_is opens named =
     ∙ ap (λ (l : List ℕ). read (BeforeName (tag_in is_end len l)) 0 (input (drop len inside))) inside_is
     ∙ ap (λ (l : List ℕ). read (BeforeName (tag_in is_end len (drop k rest))) 0 (input l)) (sym after_is)
 
-pub name_read : (name : List ℕ) (rest inside front : List ℕ) (k len : ℕ) → inside ≡ drop k rest → front ≡ take (len - 0) inside → name ≡ map lower (map shown (input front)) → name ≡ name_in len (drop k rest)
+pub name_read : (name : List ℕ) (rest inside front : List ℕ) (k len : ℕ) → inside ≡ drop k rest → front ≡ take (len - 0) inside → name ≡ map lower (map replace_null (input front)) → name ≡ name_in len (drop k rest)
 name_read name rest inside front k len inside_is front_is is =
     let whole : len - 0 ≡ len = omega arith in
-    is ∙ ap (λ (l : List ℕ). map lower (map shown (input l))) (front_is ∙ ap (λ (x : ℕ). take x inside) whole ∙ ap (take len) inside_is)
+    is ∙ ap (λ (l : List ℕ). map lower (map replace_null (input l))) (front_is ∙ ap (λ (x : ℕ). take x inside) whole ∙ ap (take len) inside_is)
 
 -- the first token of a tag that is given
 pub tag_token : (rest after : List ℕ) (name : List ℕ) (attributes : List Attribute) (tag : Tag) → GivesToken rest → tag.is_end ≡ false → tag.name ≡ name → tag.attributes ≡ []
@@ -50,6 +50,6 @@ tag_token rest after name attributes tag gives start named none reads found = gi
     given : (read (BeforeName tag) 0 (input after) ≡ []) ⊎ ((n : ℕ) × (read (BeforeName tag) 0 (input after) ≡ ended (with_attributes tag attributes) (input (drop n after)))) → Start name attributes ∷ [] ≡ take 1 (read Data 0 (input rest))
     given (inl nothing) = absurd (some_token rest gives (reads ∙ nothing))
     given (inr some) =
-        let more : List Token = read (after_start name) 0 (input (drop some.0 after)) in
+        let more : List Token = read (state_after_start name) 0 (input (drop some.0 after)) in
         let closes : ended (with_attributes tag attributes) (input (drop some.0 after)) ≡ Start name attributes ∷ more = rw (start, named) refl in
         first_token (read Data 0 (input rest)) (Start name attributes) more (reads ∙ some.1 ∙ closes)

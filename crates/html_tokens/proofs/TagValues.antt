@@ -5,18 +5,18 @@ use Rattle.std.proofs.lemmas.Bool.Decides.{nat_tests}
 use Rattle.std.proofs.lemmas.List.{take-append-drop, drop-drop, drop_more, length-drop}
 use Rattle.std.proofs.lemmas.Str.{IsUtf8-take, IsUtf8-drop, IsCharBoundary-after_ascii, IsCharBoundary-from_rest}
 use Rattle.std.specs.List.{list_all, prefix_len}
-use Rattle.html_tokens.specs.Characters.{is_space}
-use Rattle.html_tokens.specs.States.{Tag, shown, keep, keep_flag}
-use Rattle.html_tokens.specs.States.State.{BeforeName, AfterName, BeforeValue}
-use Rattle.html_tokens.specs.Tokenizer.{read}
-use Rattle.html_tokens.specs.Input.{input}
+use Rattle.html_syntax.specs.Characters.{is_space}
+use Rattle.html_syntax.specs.States.{Tag, replace_null, keep, keep_flag}
+use Rattle.html_syntax.specs.States.State.{BeforeName, AfterName, BeforeValue}
+use Rattle.html_syntax.specs.Tokenizer.{read}
+use Rattle.html_references.specs.Input.{input}
 use Rattle.html_tokens.specs.Scanned.{between}
 use Rattle.html_tokens.specs.Cuts.{Lacks, EndsBy}
 use Rattle.html_tokens.specs.Tags.{is_blank, belongs, value_read, begins_quoted, BeginsOutside, HoldsValue}
 use Rattle.html_tokens.specs.declared.tags.Class.TheVariants as class
-use Rattle.html_tokens.proofs.Stops.{Stops, is_of_reference}
+use Rattle.html_references.proofs.Stops.{Stops, is_of_reference}
 use Rattle.html_tokens.proofs.Decoding.{decoded_run}
-use Rattle.html_tokens.proofs.Stretches.{PassesWide, IsMarked, input-append, input-nil, input-cons, all-input, utf8_tail}
+use Rattle.html_references.proofs.Stretches.{PassesWide, IsMarked, input-append, input-nil, input-cons, all-input, utf8_tail}
 use Rattle.html_tokens.proofs.TagRows.{quoted, quoted_decodes, quoted_nil, quoted_end, value_quote, value_other, value_nil, unquoted, is_unquoted, unquoted_decodes, unquoted_nil, unquoted_stops, before_nil, value_space, after_space, after_equals, after_nil, after_other, before_space}
 use Rattle.html_tokens.proofs.TagRuns.{IsWide, Leaves, cut, weaker, prefix_outside, at_stop, at_first, head_return, wide_boundary, small_boundary, IsSmall, passed}
 
@@ -49,7 +49,7 @@ closed quote t n xs ys is utf8 lacks =
     let other : (38 == quote) ≡ false = grind (arith, nat_tests) in
     let marked : IsMarked (quote ∷ ys) = (grind (arith, nat_tests), λ (e : quote ≡ 10). let x : (10 == 34 || 10 == 39) ≡ true = rw e at is in cc) in
     ap (quoted quote t n [] 0) (input-append xs (quote ∷ ys) utf8 marked ∙ ap (λ (l : List ℕ). input xs ++ l) (quote_input quote is ys))
-    ∙ decoded_run (quoted quote t n) true (λ c. not (c == quote)) shown (quoted_decodes quote other t n) [] (input xs) (quote ∷ input ys) (no_quote quote xs is utf8 lacks) (quote_stops quote is)
+    ∙ decoded_run (quoted quote t n) true (λ c. not (c == quote)) replace_null (quoted_decodes quote other t n) [] (input xs) (quote ∷ input ys) (no_quote quote xs is utf8 lacks) (quote_stops quote is)
     ∙ quoted_end quote t n (value_read xs) (input ys) (quote_self quote)
 
 -- a value whose quote is missing gives no tag
@@ -57,7 +57,7 @@ unclosed : (quote : ℕ) (t : Tag) (n xs : List ℕ) → IsQuote quote → IsUtf
 unclosed quote t n xs is utf8 lacks =
     let other : (38 == quote) ≡ false = grind (arith, nat_tests) in
     ap (quoted quote t n [] 0) (sym (append-nil (input xs)))
-    ∙ decoded_run (quoted quote t n) true (λ c. not (c == quote)) shown (quoted_decodes quote other t n) [] (input xs) [] (no_quote quote xs is utf8 lacks) tt
+    ∙ decoded_run (quoted quote t n) true (λ c. not (c == quote)) replace_null (quoted_decodes quote other t n) [] (input xs) [] (no_quote quote xs is utf8 lacks) tt
     ∙ quoted_nil quote t n (value_read xs)
 
 inner_ends : (quote : ℕ) (t : Tag) (n bytes : List ℕ) (len end : ℕ) → IsQuote quote → IsUtf8 bytes → IsCharBoundary bytes len → Lacks quote (take len bytes) → EndsBy quote bytes len end
@@ -156,7 +156,7 @@ in_bare rest k utf8 outside other e = λ t n.
     rw (e, count) (
     bare_begins t n rest utf8 outside other
     ∙ ap (unquoted t n [] 0) c.is
-    ∙ decoded_run (unquoted t n) true is_unquoted shown (unquoted_decodes t n) [] (input (take len rest)) (input (drop len rest))
+    ∙ decoded_run (unquoted t n) true is_unquoted replace_null (unquoted_decodes t n) [] (input (take len rest)) (input (drop len rest))
     (weaker (belongs class.UnquotedValue) is_unquoted (λ b h. grind (arith, nat_tests)) (input (take len rest)) c.all) (bare_stops (drop len rest) ended)
     ∙ bare_ends t n (value_read (take len rest)) (drop len rest) ended)
 

@@ -3,21 +3,21 @@ use Rattle.std.proofs.Common.{◌≡◌, ℕ, suc, Bool, true, false, not, ◌||
 use Rattle.std.proofs.lemmas.Bool.{cases_Bool, eqb-true}
 use Rattle.std.proofs.lemmas.Bool.Decides.{nat_tests}
 use Rattle.std.specs.List.{list_all}
-use Rattle.html_tokens.specs.Token.{Token}
-use Rattle.html_tokens.specs.Token.Token.{Char}
-use Rattle.html_tokens.specs.Characters.{is_letter}
-use Rattle.html_tokens.specs.References.{reference}
-use Rattle.html_tokens.specs.States.State.{Data, TagOpen}
-use Rattle.html_tokens.specs.States.Move.{Again}
-use Rattle.html_tokens.specs.Tokenizer.{look, again, step, read, at_end, chars}
-use Rattle.html_tokens.specs.Input.{input, decoded}
+use Rattle.html_syntax.specs.Token.{Token}
+use Rattle.html_syntax.specs.Token.Token.{Char}
+use Rattle.html_syntax.specs.Characters.{is_letter}
+use Rattle.html_syntax.specs.References.{reference}
+use Rattle.html_syntax.specs.States.State.{Data, TagOpen}
+use Rattle.html_syntax.specs.States.Action.{ReconsumeIn}
+use Rattle.html_syntax.specs.Tokenizer.{look, look_again, step, read, tokens_at_end, chars}
+use Rattle.html_references.specs.Input.{input, decode_references}
 use Rattle.html_tokens.specs.Scanned.{opens_markup}
 use Rattle.html_tokens.specs.Cuts.{Lacks, BeginsWith}
 use Rattle.html_tokens.proofs.Runs.{emits, emits-more, reconsumed}
-use Rattle.html_tokens.proofs.Stops.{Stops}
+use Rattle.html_references.proofs.Stops.{Stops}
 use Rattle.html_tokens.proofs.Marks.{Marks, begins_marked}
 use Rattle.html_tokens.proofs.Decoding.{Decodes, decoded_run, decoded-append}
-use Rattle.html_tokens.proofs.Stretches.{PassesWide, input-first, input-cons, input-nil, input-append, all-input}
+use Rattle.html_references.proofs.Stretches.{PassesWide, input-first, input-cons, input-nil, input-append, all-input}
 
 -- ---- no `<` among them
 
@@ -25,13 +25,13 @@ abbrev pub is_plain : ℕ → Bool
 is_plain c = not (c == 60)
 
 data_keeps : (kept : List ℕ) (c : ℕ) (text : List ℕ) → is_plain c ≡ true → (c == 0x26) ≡ false → emits Data kept 0 (c ∷ text) ≡ emits Data (kept ++ c ∷ []) 0 text
-unfolding read step again look
+unfolding read step look_again look
 data_keeps kept c text h other =
     let less : (c == 60) ≡ false = grind (arith, nat_tests) in
     rw (other, less) (emits-more Data kept (c ∷ []) 0 text)
 
 data_refers : (kept text : List ℕ) (c : ℕ) → (c == 0x26) ≡ true → emits Data kept 0 (c ∷ text) ≡ emits Data (kept ++ (reference false text).chars) (reference false text).len text
-unfolding read step again look
+unfolding read step look_again look
 data_refers kept text c is = rw is (emits-more Data kept (reference false text).chars (reference false text).len text)
 
 data_passes : (kept : List ℕ) (n c : ℕ) (text : List ℕ) → emits Data kept (suc n) (c ∷ text) ≡ emits Data kept n text
@@ -42,7 +42,7 @@ data_decodes : Decodes (emits Data) false is_plain (λ c. c)
 data_decodes = record { keeps = data_keeps; refers = data_refers; passes = data_passes }
 
 abbrev pub text_of : List ℕ → List ℕ
-text_of text = decoded false (λ c. c) 0 text
+text_of text = decode_references false (λ c. c) 0 text
 
 pub data_run : (cs more : List ℕ) → list_all is_plain cs ≡ true → Stops more → read Data 0 (cs ++ more) ≡ chars (text_of cs) ++ read Data 0 more
 data_run cs more h s = decoded_run (emits Data) false is_plain (λ c. c) data_decodes [] cs more h s
@@ -56,7 +56,7 @@ is_other c = not (is_letter c || c == 0x21 || c == 0x3F || c == 0x2F)
 wide_other : PassesWide is_other
 wide_other c big = grind (arith, nat_tests)
 
-open_less : (c : ℕ) (text : List ℕ) → is_other c ≡ true → look TagOpen c text ≡ Again Data (Char 60 ∷ [])
+open_less : (c : ℕ) (text : List ℕ) → is_other c ≡ true → look TagOpen c text ≡ ReconsumeIn Data (Char 60 ∷ [])
 unfolding look
 open_less c text h =
     let a : is_letter c ≡ false = grind (arith, nat_tests) in
@@ -66,15 +66,15 @@ open_less c text h =
     rw (a, b, d, e) refl
 
 opened : (text : List ℕ) → read Data 0 (60 ∷ text) ≡ read TagOpen 0 text
-unfolding read step again look
+unfolding read step look_again look
 opened text = refl
 
 less_end : read Data 0 (60 ∷ []) ≡ Char 60 ∷ read Data 0 []
-unfolding read step again look at_end
+unfolding read step look_again look tokens_at_end
 less_end = refl
 
 less_solidus_end : read Data 0 (60 ∷ 47 ∷ []) ≡ Char 60 ∷ read Data 0 (47 ∷ [])
-unfolding read step again look at_end
+unfolding read step look_again look tokens_at_end
 less_solidus_end = refl
 
 less_char : (c : ℕ) (text : List ℕ) → is_other c ≡ true → read Data 0 (60 ∷ c ∷ text) ≡ Char 60 ∷ read Data 0 (c ∷ text)
@@ -124,7 +124,7 @@ data_here kept tail utf8 alone =
     ap (λ (l : List Token). chars kept ++ l) (ap (read Data 0) (input-less tail) ∙ less_alone tail utf8 alone) ∙ emits-more Data kept (60 ∷ []) 0 (input tail)
 
 text_of-less : (text : List ℕ) → text_of (60 ∷ text) ≡ 60 ∷ text_of text
-unfolding decoded
+unfolding decode_references
 text_of-less text = refl
 
 data_joins : (xs ys : List ℕ) → text_of (xs ++ 60 ∷ ys) ≡ text_of xs ++ 60 ∷ text_of ys

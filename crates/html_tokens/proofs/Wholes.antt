@@ -1,12 +1,12 @@
 -- The tokens of a whole text.
 use Rattle.std.proofs.Common.{◌≡◌, ℕ, List, [], ◌∷◌, ◌++◌, refl, sym, ap, ◌∙◌, append_assoc, append-nil}
 use Rattle.std.specs.Str.{chars}
-use Rattle.html_tokens.specs.Token.{Token}
-use Rattle.html_tokens.specs.declared.token.Token.{Token as HeldToken}
+use Rattle.html_syntax.specs.Token.{Token}
+use Rattle.html_syntax.specs.declared.token.Token.{Token as HeldToken}
 use Rattle.html_tokens.specs.declared.mode.Mode.TheVariants as mode
-use Rattle.html_tokens.specs.Held.{meaning, meanings}
-use Rattle.html_tokens.specs.Tokenizer.{tokens}
-use Rattle.html_tokens.specs.Input.{input}
+use Rattle.html_syntax.specs.Held.{meaning, meanings}
+use Rattle.html_syntax.specs.Tokenizer.{tokens}
+use Rattle.html_references.specs.Input.{input}
 use Rattle.html_tokens.specs.Scanned.{Place, left}
 
 whole : (text : List ℕ) → left (record { text = text; at = 0; mode = mode.Data }) ≡ tokens (chars text)

@@ -4,13 +4,13 @@ use Rattle.std.proofs.lemmas.Bool.{cases_Bool, cases_lt, and_parts, eqb-true}
 use Rattle.std.proofs.lemmas.Bool.Decides.{nat_tests}
 use Rattle.std.specs.List.{list_all}
 use Rattle.std.specs.Str.{bytes_eq}
-use Rattle.html_tokens.specs.Characters.{lower}
-use Rattle.html_tokens.specs.States.{shown}
+use Rattle.html_syntax.specs.Characters.{lower}
+use Rattle.html_syntax.specs.States.{replace_null}
 use Rattle.html_tokens.specs.Tags.{name_read, is_lowered}
-use Rattle.html_tokens.proofs.Stretches.{input-nil, input-cons, input-first, utf8_tail}
+use Rattle.html_references.proofs.Stretches.{input-nil, input-cons, input-first, utf8_tail}
 use Rattle.html_tokens.proofs.TagRuns.{head_return}
 
-lowered_first : (x b : ℕ) → is_lowered x ≡ true → (lower b == lower x) ≡ (lower (shown b) == x)
+lowered_first : (x b : ℕ) → is_lowered x ≡ true → (lower b == lower x) ≡ (lower (replace_null b) == x)
 lowered_first x b h = elim (cases_Bool (b == 0)) [
   | inl is ↦
       let e : b ≡ 0 = eqb-true b 0 is in
@@ -47,12 +47,12 @@ word_read (x ∷ word) (b ∷ bytes) h utf8 =
             let no_return : b ≢ 13 = (λ (y : b ≡ 13). let z : (13 == 13) ≡ false = rw y at other in cc) in
             rw (input-cons b bytes small no_return) (
             ap (λ (t : Bool). t && bytes_eq (map lower bytes) (map lower word)) (lowered_first x b parts.0)
-            ∙ ap (λ (t : Bool). (lower (shown b) == x) && t) (word_read word bytes parts.1 (utf8_tail b bytes small utf8)))
+            ∙ ap (λ (t : Bool). (lower (replace_null b) == x) && t) (word_read word bytes parts.1 (utf8_tail b bytes small utf8)))
       ]
       | inr big ↦
           let f = input-first (λ c. leb 128 c) (λ c large. grind (arith, nat_tests)) (λ y. absurd (let z : false ≡ true = y in cc)) b bytes utf8 (grind (arith, nat_tests)) in
           let p = f.passes in
           let large : 128 ≤ f.char = grind (arith, nat_tests) in
-          let first : (lower (shown f.char) == x) ≡ false = sym (lowered_first x f.char parts.0) ∙ wide_other x f.char parts.0 large in
+          let first : (lower (replace_null f.char) == x) ≡ false = sym (lowered_first x f.char parts.0) ∙ wide_other x f.char parts.0 large in
           rw (wide_other x b parts.0 big, f.is, first) refl
     ]

@@ -1,6 +1,6 @@
 -- The end of a comment, as it is written (13.2.5.50 to 13.2.5.52).
 use Rattle.std.specs.Prelude.{ℕ, ◌==◌, ◌&&◌, ◌||◌, if◌then◌else◌, List, [], ◌∷◌}
-use Rattle.html_tokens.specs.Characters.{hyphen, greater_than, exclamation_mark}
+use Rattle.html_syntax.specs.Characters.{hyphen, greater_than, exclamation_mark}
 
 -- after two hyphens: how many characters there are with them
 abbrev pub after_hyphens : List ℕ → ℕ

@@ -1,10 +1,11 @@
 -- What a `<` opens (13.2.5.6, 13.2.5.7 and 13.2.5.42).
 use Rattle.std.specs.Prelude.{◌≡◌, ℕ, Bool, true, false, ◌&&◌, ◌==◌, if◌then◌else◌, List, [], ◌∷◌, codes}
-use Rattle.html_tokens.specs.Characters.{exclamation_mark, less_than, solidus, greater_than, question_mark, is_letter, lower}
-use Rattle.html_tokens.specs.References.{begins}
+use Rattle.html_syntax.specs.Characters.{exclamation_mark, less_than, solidus, greater_than, question_mark, is_letter}
+use Rattle.html_syntax.specs.References.{begins_with}
+use Rattle.html_references.specs.Prefixes.{begins_lowered}
 use Rattle.html_tokens.specs.Scanned.{opens_start, opens_end}
-use Rattle.html_tokens.specs.States.{State, new_tag}
-use Rattle.html_tokens.specs.States.State.{TagName, Bogus, CommentStart, DoctypeBody}
+use Rattle.html_syntax.specs.States.{State, new_tag}
+use Rattle.html_syntax.specs.States.State.{TagName, Bogus, CommentStart, DoctypeBody}
 use Rattle.html_tokens.specs.declared.markup.Opening.{Opening}
 use Rattle.html_tokens.specs.declared.markup.Opening.TheVariants as opening
 
@@ -33,15 +34,9 @@ begins_empty (a ∷ b ∷ []) = false
 begins_empty (a ∷ []) = false
 begins_empty [] = false
 
--- the text begins with the word, in letters of either case
-abbrev pub begins_lowered : List ℕ → List ℕ → Bool
-begins_lowered [] text = true
-begins_lowered (w ∷ word) [] = false
-begins_lowered (w ∷ word) (c ∷ text) = w == lower c && begins_lowered word text
-
 abbrev pub after_bang : List ℕ → Opening
 after_bang text =
-    if begins (codes "--") text then opening.Comment
+    if begins_with (codes "--") text then opening.Comment
     else (if begins_lowered (codes "doctype") text then opening.Doctype
     else opening.Bogus)
 

@@ -1,13 +1,13 @@
 -- What a scanner has left of a text, and what its spans are read as.
 use Rattle.std.specs.Prelude.{◌≡◌, ℕ, ◌+◌, ◌-◌, ◌<◌, ◌≤◌, Bool, true, false, not, ◌&&◌, ◌||◌, ◌==◌, List, [], ◌∷◌, take, drop, map, codes, max, IsCharBoundary}
-use Rattle.html_tokens.specs.Token.{Token}
-use Rattle.html_tokens.specs.Token.Token.{Comment, Doctype}
-use Rattle.html_tokens.specs.Characters.{less_than, solidus, exclamation_mark, question_mark, is_letter}
-use Rattle.html_tokens.specs.States.{Kind, State, shown}
-use Rattle.html_tokens.specs.States.State.{Data, Plaintext, Raw}
-use Rattle.html_tokens.specs.States.Kind.{Rcdata, Rawtext, Script}
-use Rattle.html_tokens.specs.Tokenizer.{read, chars}
-use Rattle.html_tokens.specs.Input.{input, read_as}
+use Rattle.html_syntax.specs.Token.{Token}
+use Rattle.html_syntax.specs.Token.Token.{Comment, Doctype}
+use Rattle.html_syntax.specs.Characters.{less_than, solidus, exclamation_mark, question_mark, is_letter}
+use Rattle.html_syntax.specs.States.{RawTextKind, State, replace_null}
+use Rattle.html_syntax.specs.States.State.{Data, Plaintext, Raw}
+use Rattle.html_syntax.specs.States.RawTextKind.{Rcdata, Rawtext, Script}
+use Rattle.html_syntax.specs.Tokenizer.{read, chars}
+use Rattle.html_references.specs.Input.{input, read_as}
 use Rattle.html_tokens.specs.declared.mode.Content.{Content}
 use Rattle.html_tokens.specs.declared.mode.Content.TheVariants as content
 use Rattle.html_tokens.specs.declared.mode.Mode.{Mode}
@@ -29,7 +29,7 @@ name_of content.Noembed = codes "noembed"
 name_of content.Noframes = codes "noframes"
 name_of content.Script = codes "script"
 
-abbrev pub kind_of : Content → Kind
+abbrev pub kind_of : Content → RawTextKind
 kind_of content.Title = Rcdata
 kind_of content.Textarea = Rcdata
 kind_of content.Style = Rawtext
@@ -64,7 +64,7 @@ abbrev pub part_tokens : List ℕ → ℕ → ℕ → Part → List Token
 part_tokens text start end (part.Run r) = chars (read_as r (input (between start end text)))
 part_tokens text start end part.StartTag = take 1 (read Data 0 (input (drop start text)))
 part_tokens text start end part.EndTag = take 1 (read Data 0 (input (drop start text)))
-part_tokens text start end (part.Comment from to) = Comment (map shown (input (between from to text))) ∷ []
+part_tokens text start end (part.Comment from to) = Comment (map replace_null (input (between from to text))) ∷ []
 part_tokens text start end part.Doctype = Doctype ∷ []
 
 abbrev pub span_tokens : List ℕ → Span → List Token

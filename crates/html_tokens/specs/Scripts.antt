@@ -1,12 +1,12 @@
 -- The text of a script (13.2.5.4, and 13.2.5.15 to 13.2.5.31).
 use Rattle.std.specs.Prelude.{◌≡◌, ℕ, ◌⊎◌, Bool, true, false, not, ◌||◌, ◌==◌, List, [], ◌∷◌, ◌++◌, take, drop, map, codes}
 use Rattle.std.specs.List.{list_all}
-use Rattle.html_tokens.specs.Characters.{less_than, hyphen}
-use Rattle.html_tokens.specs.States.{State, shown}
-use Rattle.html_tokens.specs.States.Kind.{Script, Escaped}
-use Rattle.html_tokens.specs.States.State.{Raw, DoubleEscaped}
-use Rattle.html_tokens.specs.Tokenizer.{read, chars}
-use Rattle.html_tokens.specs.Input.{input}
+use Rattle.html_syntax.specs.Characters.{less_than, hyphen}
+use Rattle.html_syntax.specs.States.{State, replace_null}
+use Rattle.html_syntax.specs.States.RawTextKind.{Script, Escaped}
+use Rattle.html_syntax.specs.States.State.{Raw, DoubleEscaped}
+use Rattle.html_syntax.specs.Tokenizer.{read, chars}
+use Rattle.html_references.specs.Input.{input}
 use Rattle.html_tokens.specs.Contents.{closes}
 use Rattle.html_tokens.specs.declared.mode.Content.TheVariants as content
 use Rattle.html_tokens.specs.declared.script.Phase.{Phase}
@@ -19,7 +19,7 @@ script_state phase.DoubleEscaped = DoubleEscaped (codes "script")
 
 -- So many bytes of a script are text, and after them it is read in the second phase.
 abbrev pub Reads : Phase → List ℕ → ℕ → Phase → Type 0
-Reads before text len after = read (script_state before) 0 (input text) ≡ chars (map shown (input (take len text))) ++ read (script_state after) 0 (input (drop len text))
+Reads before text len after = read (script_state before) 0 (input text) ≡ chars (map replace_null (input (take len text))) ++ read (script_state after) 0 (input (drop len text))
 
 -- The script ends here: in a double escape no end tag ends it.
 abbrev pub ends_script : Phase → List ℕ → Bool

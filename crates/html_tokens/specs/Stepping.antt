@@ -1,14 +1,14 @@
 -- The step to the next token.
 use Rattle.std.specs.Prelude.{◌≡◌, ℕ, true, false, ◌<◌, ◌≤◌, List, [], ◌++◌, Option, Some, None, length, drop, IsCharBoundary}
-use Rattle.html_tokens.specs.Token.{Token}
-use Rattle.html_tokens.specs.Tokenizer.{read}
-use Rattle.html_tokens.specs.Input.{input}
+use Rattle.html_syntax.specs.Token.{Token}
+use Rattle.html_syntax.specs.Tokenizer.{read}
+use Rattle.html_references.specs.Input.{input}
 use Rattle.html_tokens.specs.Scanned.{state_in, span_tokens, IsSpan, opens_markup}
 use Rattle.html_tokens.specs.declared.mode.Mode.{Mode}
 use Rattle.html_tokens.specs.declared.mode.Mode.TheVariants as mode
 use Rattle.html_tokens.specs.declared.span.Part.{Part}
 use Rattle.html_tokens.specs.declared.span.Part.TheVariants as part
-use Rattle.html_tokens.specs.declared.stretch.ReadAs.{ReadAs}
+use Rattle.html_references.specs.declared.stretch.ReadAs.{ReadAs}
 use Rattle.html_tokens.specs.declared.step.Step.{Step}
 
 -- the tokens of a text that is read in a mode

@@ -1,17 +1,28 @@
 -- The bytes of tags, and what an attribute's stretches are read as.
 use Rattle.std.specs.Prelude.{◌≡◌, ◌≢◌, ◌⊎◌, ℕ, Bool, false, if◌then◌else◌, not, ◌||◌, ◌==◌, List, [], ◌∷◌, ◌++◌, take, drop, map, Option, MatchOption, IsCharBoundary}
-use Rattle.html_tokens.specs.Token.{Attribute}
-use Rattle.html_tokens.specs.Characters.{carriage_return, quotation_mark, apostrophe, solidus, equals_sign, greater_than, is_between, is_space, lower}
-use Rattle.html_tokens.specs.States.{Tag, has_name, keep, keep_flag, shown}
-use Rattle.html_tokens.specs.States.State.{BeforeName, AfterName, BeforeValue}
-use Rattle.html_tokens.specs.Tokenizer.{read}
-use Rattle.html_tokens.specs.Input.{input, read_as, with_attributes, ended}
-use Rattle.html_tokens.specs.declared.stretch.ReadAs.TheVariants as reads
+use Rattle.html_syntax.specs.Token.{Attribute, Token}
+use Rattle.html_syntax.specs.Characters.{carriage_return, quotation_mark, apostrophe, solidus, equals_sign, greater_than, is_between, is_space, lower}
+use Rattle.html_syntax.specs.States.{Tag, has_name, keep, keep_flag, emit, replace_null}
+use Rattle.html_syntax.specs.States.State.{BeforeName, AfterName, BeforeValue}
+use Rattle.html_syntax.specs.Tokenizer.{read, emitted_tokens, next_state}
+use Rattle.html_references.specs.Input.{input, read_as}
+use Rattle.html_references.specs.declared.stretch.ReadAs.TheVariants as reads
 use Rattle.html_tokens.specs.Scanned.{between}
 use Rattle.html_tokens.specs.declared.tags.AttributePlace.{AttributePlace}
 use Rattle.html_tokens.specs.declared.tags.ValuePlace.{ValuePlace}
 use Rattle.html_tokens.specs.declared.tags.Class.{Class}
 use Rattle.html_tokens.specs.declared.tags.Class.TheVariants as class
+
+-- the tag with this more of its name
+abbrev pub named_by : Tag → List ℕ → Tag
+named_by tag text = record { is_end = tag.is_end; name = tag.name ++ map lower (map replace_null text); attributes = tag.attributes }
+
+abbrev pub with_attributes : Tag → List Attribute → Tag
+with_attributes tag attributes = record { is_end = tag.is_end; name = tag.name; attributes = attributes }
+
+-- the tag, and what this text is read as after its `>`
+abbrev pub ended : Tag → List ℕ → List Token
+ended tag text = emitted_tokens (emit tag) ++ read (next_state (emit tag)) 0 text
 
 -- a byte that is read as white space: a carriage return is read as a line feed
 abbrev pub is_blank : ℕ → Bool
@@ -27,7 +38,7 @@ belongs class.UnquotedValue b = not (is_blank b || b == greater_than)
 
 -- the name that a stretch spells: ASCII letters lowered, U+0000 as U+FFFD
 abbrev pub name_read : List ℕ → List ℕ
-name_read bytes = map lower (map shown (input bytes))
+name_read bytes = map lower (map replace_null (input bytes))
 
 -- an ASCII lower alpha
 abbrev pub is_lowered : ℕ → Bool

@@ -1,14 +1,14 @@
 //! The texts of tags and of their attributes.
 ghost use Rattle.std.specs.Prelude.{◌≡◌, ◌≤◌, List, [], ◌∷◌, ◌++◌, chars, string_bytes, map, IfOk, OnOk, IsCharBoundary};
-ghost use Rattle.html_tokens.specs.Token.{attribute_of};
-ghost use Rattle.html_tokens.specs.States.{has_name};
+ghost use Rattle.html_syntax.specs.Token.{attribute_of};
+ghost use Rattle.html_syntax.specs.States.{has_name};
 ghost use Rattle.html_tokens.specs.Tags.{name_read, kept_among, attribute_at, GivesTag, ReadsUpTo};
 
 use crate::Memory;
-use crate::attributes::Attributes;
 use crate::name_set::NameSet;
-use crate::stretch::{ReadAs, read_stretch};
 use crate::tags::{AttributePlace, attribute, begins_attribute, gap};
+use html_references::stretch::{ReadAs, read_stretch};
+use html_syntax::Attributes;
 use mail_values::Text;
 use std::alloc::Global;
 use std::marker::Model;
@@ -92,7 +92,7 @@ struct AttributeList {
 
 impl Model for AttributeList {
     ghost use Rattle.std.specs.Prelude.{List, map};
-    ghost use Rattle.html_tokens.specs.Token.{Attribute, attribute_of};
+    ghost use Rattle.html_syntax.specs.Token.{Attribute, attribute_of};
     ghost use Rattle.html_tokens.specs.Kept.{HoldsNames};
 
     ghost Value = { List Attribute };
@@ -160,25 +160,4 @@ fn more_attributes(
         at += place.end;
     }
     Ok(list.finish())
-}
-
-#[cfg(test)]
-mod tests {
-    use super::*;
-    use std::test::Fail;
-
-    #[test]
-    fn a_tag_of_many_attributes_has_the_first_of_each_name(rt: HostRuntime) -> Result<(), Fail> {
-        let rest = " a=0 b c d e f g h i j k l m n o p q r s A=1 S=2 t=&amp;>";
-        let found = attributes(rt.alloc(), rest, 0)?;
-        assert_eq!(rt; found.len(), 20);
-        assert_eq!(rt; found.value(0), "0");
-        assert_eq!(rt; found.name(18), "s");
-        assert_eq!(rt; found.value(18), "");
-        assert_eq!(rt; found.name(19), "t");
-        assert_eq!(rt; found.value(19), "&");
-        let name = tag_name(rt.alloc(), "DIV\0")?;
-        assert_eq!(rt; name.as_str(), "div\u{FFFD}");
-        Ok(())
-    }
 }

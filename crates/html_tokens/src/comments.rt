@@ -1,10 +1,10 @@
 //! Comments and DOCTYPEs (HTML Standard 13.2.5.41 to 13.2.5.68).
 ghost use Rattle.std.specs.Prelude.{◌≡◌, ◌≤◌, ◌<◌, ◌∷◌, [], zero, length, take, drop, map, IsCharBoundary};
-ghost use Rattle.html_tokens.specs.Token.Token.{Comment, Doctype};
-ghost use Rattle.html_tokens.specs.States.{shown};
-ghost use Rattle.html_tokens.specs.States.State.{Data, Bogus, CommentStart, CommentBody, DoctypeBody};
-ghost use Rattle.html_tokens.specs.Tokenizer.{read};
-ghost use Rattle.html_tokens.specs.Input.{input};
+ghost use Rattle.html_syntax.specs.Token.Token.{Comment, Doctype};
+ghost use Rattle.html_syntax.specs.States.{replace_null};
+ghost use Rattle.html_syntax.specs.States.State.{Data, Bogus, CommentStart, CommentBody, DoctypeBody};
+ghost use Rattle.html_syntax.specs.Tokenizer.{read};
+ghost use Rattle.html_references.specs.Input.{input};
 ghost use Rattle.html_tokens.specs.Cuts.{Lacks, EndsBy};
 ghost use Rattle.html_tokens.specs.Closings.{after_hyphens, closing, abrupt};
 
@@ -75,7 +75,7 @@ fn abrupt_len(rest: &str) -> usize
 /// Where the text of a comment ends that does not end where it begins.
 fn body_end(rest: &str) -> usize
     ensures boundary { IsCharBoundary rest.now result }
-    ensures reads { read (CommentBody []) 0 (input rest.now) ≡ read (CommentBody (map shown (input (take result rest.now)))) 0 (input (drop result rest.now)) }
+    ensures reads { read (CommentBody []) 0 (input rest.now) ≡ read (CommentBody (map replace_null (input (take result rest.now)))) 0 (input (drop result rest.now)) }
     ensures closes { result < length rest.now → 0 < closing (drop result rest.now) }
 {
     let mut at = place_of(b'-', rest);
@@ -90,7 +90,7 @@ pub fn comment(rest: &str) -> Ended
     ensures len { IsCharBoundary rest.now result.len }
     ensures end { IsCharBoundary rest.now result.end }
     ensures ordered { result.len ≤ result.end }
-    ensures reads { read (CommentStart []) 0 (input rest.now) ≡ Comment (map shown (input (take result.len rest.now))) ∷ read Data 0 (input (drop result.end rest.now)) }
+    ensures reads { read (CommentStart []) 0 (input rest.now) ≡ Comment (map replace_null (input (take result.len rest.now))) ∷ read Data 0 (input (drop result.end rest.now)) }
 {
     let abrupt = abrupt_len(rest);
     if abrupt > 0 {
@@ -126,7 +126,7 @@ pub fn bogus_comment(rest: &str) -> Ended
     ensures len { IsCharBoundary rest.now result.len }
     ensures end { IsCharBoundary rest.now result.end }
     ensures ordered { result.len ≤ result.end }
-    ensures reads { read (Bogus []) 0 (input rest.now) ≡ Comment (map shown (input (take result.len rest.now))) ∷ read Data 0 (input (drop result.end rest.now)) }
+    ensures reads { read (Bogus []) 0 (input rest.now) ≡ Comment (map replace_null (input (take result.len rest.now))) ∷ read Data 0 (input (drop result.end rest.now)) }
 {
     ended_by(b'>', rest)
 }

@@ -1,12 +1,12 @@
 //! What a `<` opens (HTML Standard 13.2.5.6, 13.2.5.7 and 13.2.5.42).
 ghost use Rattle.std.specs.Prelude.{◌≡◌, true, false, drop, zero, IsCharBoundary};
-ghost use Rattle.html_tokens.specs.States.State.{Data};
-ghost use Rattle.html_tokens.specs.Tokenizer.{read};
-ghost use Rattle.html_tokens.specs.Input.{input};
+ghost use Rattle.html_syntax.specs.States.State.{Data};
+ghost use Rattle.html_syntax.specs.Tokenizer.{read};
+ghost use Rattle.html_references.specs.Input.{input};
 ghost use Rattle.html_tokens.specs.Scanned.{opens_markup};
 ghost use Rattle.html_tokens.specs.Openings.{opening_len, state_after, begins_empty as is_empty_tag, after_bang, after_solidus, opening_of, OpensTag};
 
-use crate::prefixes::{begins_by, begins_lowered};
+use html_references::prefixes::{begins_by, begins_lowered};
 
 /// What begins at a `<`.
 #[derive(Clone, Copy)]

@@ -1,7 +1,7 @@
 //! How a text is read from a place on.
 ghost use Rattle.std.specs.Prelude.{◌≡◌, true};
 ghost use Rattle.std.specs.List.{list_all};
-ghost use Rattle.html_tokens.specs.States.{same, after_start};
+ghost use Rattle.html_syntax.specs.States.{same, state_after_start};
 ghost use Rattle.html_tokens.specs.Scanned.{state_in};
 ghost use Rattle.html_tokens.specs.Tags.{name_read, is_lowered};
 
@@ -36,7 +36,7 @@ fn is_word(name: &str, word: &str) -> bool
 
 /// How the text is read after a start tag of this name.
 pub fn mode_after(name: &str) -> Mode
-    ensures { state_in result ≡ after_start (name_read name.now) }
+    ensures { state_in result ≡ state_after_start (name_read name.now) }
 {
     if is_word(name, "title") {
         Mode::Inside(Content::Title)

@@ -1,17 +1,17 @@
 //! The content of elements in which few tags are read: RCDATA, RAWTEXT and plaintext (HTML Standard 13.2.5.2 to 13.2.5.14).
 ghost use Rattle.std.specs.Prelude.{◌≡◌, ◌++◌, ◌<◌, length, take, drop, true, false, codes, zero, IsCharBoundary};
-ghost use Rattle.html_tokens.specs.States.{is_script};
-ghost use Rattle.html_tokens.specs.States.State.{Data, Raw, Plaintext};
-ghost use Rattle.html_tokens.specs.Tokenizer.{read, chars as char_tokens};
-ghost use Rattle.html_tokens.specs.Input.{input, read_as};
+ghost use Rattle.html_syntax.specs.States.{is_script};
+ghost use Rattle.html_syntax.specs.States.State.{Data, Raw, Plaintext};
+ghost use Rattle.html_syntax.specs.Tokenizer.{read, chars as char_tokens};
+ghost use Rattle.html_references.specs.Input.{input, read_as};
 ghost use Rattle.html_tokens.specs.Scanned.{name_of, kind_of, opens_end};
 ghost use Rattle.html_tokens.specs.Contents.{text_in, ends_name as name_ends, named, closes as content_closes};
-ghost use Rattle.html_tokens.specs.declared.stretch.ReadAs.TheVariants as reads;
+ghost use Rattle.html_references.specs.declared.stretch.ReadAs.TheVariants as reads;
 
 use crate::cuts::place_of;
 use crate::mode::Content;
 use crate::script::script_end;
-use crate::stretch::ReadAs;
+use html_references::stretch::ReadAs;
 
 impl Content {
     /// What the element's content is read as.

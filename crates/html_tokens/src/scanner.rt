@@ -1,9 +1,9 @@
 //! A scanner that gives the places of tokens first, and a token only where it is asked for.
 ghost use Rattle.std.specs.Prelude.{◌≡◌, ◌≤◌, ◌++◌, [], true, zero, take, IfOk, IfSome, None, MatchOption, chars};
-ghost use Rattle.html_tokens.specs.States.State.{Data as InData};
-ghost use Rattle.html_tokens.specs.Tokenizer.{read};
-ghost use Rattle.html_tokens.specs.Held.{meaning};
-ghost use Rattle.html_tokens.specs.Input.{input, read_as as what_is_read};
+ghost use Rattle.html_syntax.specs.States.State.{Data as InData};
+ghost use Rattle.html_syntax.specs.Tokenizer.{read};
+ghost use Rattle.html_syntax.specs.Held.{meaning};
+ghost use Rattle.html_references.specs.Input.{input, read_as as what_is_read};
 ghost use Rattle.html_tokens.specs.Scanned.{left, span_tokens, IsSpan, GivesToken, opens_start, opens_end};
 ghost use Rattle.html_tokens.specs.Stepping.{Passes, RunEnds, RunBegins, RunLeaves};
 ghost use Rattle.html_tokens.specs.declared.mode.Mode.TheVariants.{Data};
@@ -12,9 +12,9 @@ use crate::attribute_list::{attributes, tag_name};
 use crate::mode::Mode;
 use crate::span::{Part, Span};
 use crate::step::step_at;
-use crate::stretch::{ReadAs, read_stretch};
 use crate::tags::{name_end, tag_end};
 use crate::{Memory, Token};
+use html_references::stretch::{ReadAs, read_stretch};
 use mail_values::Text;
 use std::alloc::Global;
 use std::marker::Model;

@@ -1,19 +1,19 @@
 //! The content of a script, with its escapes (HTML Standard 13.2.5.4, and 13.2.5.15 to 13.2.5.31).
 ghost use Rattle.std.specs.Prelude.{◌≡◌, ◌++◌, ◌<◌, length, take, drop, true, false, codes, zero, map, IsCharBoundary};
-ghost use Rattle.html_tokens.specs.States.State.{Data};
+ghost use Rattle.html_syntax.specs.States.State.{Data};
 ghost use Rattle.html_tokens.specs.Cuts.{Lacks};
-ghost use Rattle.html_tokens.specs.Tokenizer.{read, chars as char_tokens};
-ghost use Rattle.html_tokens.specs.Input.{input};
+ghost use Rattle.html_syntax.specs.Tokenizer.{read, chars as char_tokens};
+ghost use Rattle.html_references.specs.Input.{input};
 ghost use Rattle.html_tokens.specs.Scripts.{script_state, Reads, IsMark, LacksMarks, ends_script};
-ghost use Rattle.html_tokens.specs.States.{shown};
+ghost use Rattle.html_syntax.specs.States.{replace_null};
 ghost use Rattle.html_tokens.specs.Contents.{closes as content_closes};
 ghost use Rattle.html_tokens.specs.declared.script.Phase.TheVariants.{Plain};
 ghost use Rattle.html_tokens.specs.declared.mode.Content.TheVariants.{Script};
 
 use crate::cuts::place_of;
 use crate::mode::Content;
-use crate::prefixes::begins_by;
 use crate::raw::{begins_named, closes};
+use html_references::prefixes::begins_by;
 use memchr::memchr2;
 
 /// How a script is read: as it stands, after a `<!--`, or after a `<script` in there.
@@ -133,7 +133,7 @@ fn step(phase: Phase, rest: &str) -> Passage
 /// Where the content of a script ends.
 pub fn script_end(rest: &str) -> usize
     ensures boundary { IsCharBoundary rest.now result }
-    ensures reads { read (script_state Plain) 0 (input rest.now) ≡ char_tokens (map shown (input (take result rest.now))) ++ read Data 0 (input (drop result rest.now)) }
+    ensures reads { read (script_state Plain) 0 (input rest.now) ≡ char_tokens (map replace_null (input (take result rest.now))) ++ read Data 0 (input (drop result rest.now)) }
     ensures ends { result < length rest.now → content_closes Script (drop result rest.now) ≡ true }
 {
     let mut phase = Phase::Plain;

@@ -2,7 +2,7 @@
 ghost use Rattle.std.specs.Prelude.{◌≡◌, ◌+◌, ◌<◌, ◌≤◌, ◌^◌};
 ghost use Rattle.html_tokens.specs.Scanned.{part_bound, part_moved};
 
-use crate::stretch::ReadAs;
+use html_references::stretch::ReadAs;
 
 /// What a span holds.
 #[derive(Clone, Copy)]

@@ -3,10 +3,10 @@ ghost use Rattle.std.specs.Prelude.{◌≡◌, ◌<◌, ◌+◌, [], true, false
 ghost use Rattle.html_tokens.specs.Scanned.{opens_markup as opens, opens_start, opens_end};
 ghost use Rattle.html_tokens.specs.Openings.{begins_empty as is_empty_tag};
 ghost use Rattle.html_tokens.specs.Stepping.{Steps, StepsTo, Moves, run_step};
-ghost use Rattle.html_tokens.specs.States.{new_tag};
-ghost use Rattle.html_tokens.specs.States.State.{Data, TagName, CommentStart, Bogus, DoctypeBody};
-ghost use Rattle.html_tokens.specs.Tokenizer.{read};
-ghost use Rattle.html_tokens.specs.Input.{input};
+ghost use Rattle.html_syntax.specs.States.{new_tag};
+ghost use Rattle.html_syntax.specs.States.State.{Data, TagName, CommentStart, Bogus, DoctypeBody};
+ghost use Rattle.html_syntax.specs.Tokenizer.{read};
+ghost use Rattle.html_references.specs.Input.{input};
 ghost use Rattle.html_tokens.specs.declared.mode.Mode.TheVariants as mode;
 
 use crate::comments::{Ended, bogus_comment, comment, doctype_end};
@@ -14,9 +14,9 @@ use crate::markup::{Opening, empty_len, what_opens};
 use crate::mode::{Content, Mode, mode_after};
 use crate::raw::content_end;
 use crate::span::{Part, Span};
-use crate::stretch::ReadAs;
 use crate::tags::{name_end, tag_end};
 use crate::text::{opens_markup, text_end};
+use html_references::stretch::ReadAs;
 
 /// A token's place, and how the text is read from which place after it.
 #[derive(Clone, Copy)]

@@ -1,14 +1,14 @@
 //! Tags (HTML Standard 13.2.5.8 and 13.2.5.32 to 13.2.5.40).
 ghost use Rattle.std.specs.Prelude.{◌≡◌, ◌≤◌, ◌<◌, ℕ, List, [], zero, true, false, length, take, drop, MatchOption, IfSome, IsCharBoundary};
 ghost use Rattle.std.specs.List.{prefix_len};
-ghost use Rattle.html_tokens.specs.Token.{Attribute};
-ghost use Rattle.html_tokens.specs.States.{Tag, keep, keep_flag};
-ghost use Rattle.html_tokens.specs.States.State.{TagName, BeforeName, AfterName, BeforeValue};
-ghost use Rattle.html_tokens.specs.Tokenizer.{read};
-ghost use Rattle.html_tokens.specs.Input.{input, named_by, with_attributes, ended};
+ghost use Rattle.html_syntax.specs.Token.{Attribute};
+ghost use Rattle.html_syntax.specs.States.{Tag, keep, keep_flag};
+ghost use Rattle.html_syntax.specs.States.State.{TagName, BeforeName, AfterName, BeforeValue};
+ghost use Rattle.html_syntax.specs.Tokenizer.{read};
+ghost use Rattle.html_references.specs.Input.{input};
 ghost use Rattle.html_tokens.specs.Scanned.{between};
 ghost use Rattle.html_tokens.specs.declared.tags.Class.TheVariants.{Gap};
-ghost use Rattle.html_tokens.specs.Tags.{belongs, is_blank, name_read, BeginsOutside, BeginsAttribute, EndsTag, begins_quoted, HoldsValue, FindsValue, HoldsAttribute, EndsAfter};
+ghost use Rattle.html_tokens.specs.Tags.{belongs, is_blank, name_read, BeginsOutside, BeginsAttribute, EndsTag, begins_quoted, HoldsValue, FindsValue, HoldsAttribute, EndsAfter, named_by, with_attributes, ended};
 
 use crate::comments::ended_by;
 

@@ -1,10 +1,10 @@
 //! Text between tags (HTML Standard 13.2.5.1).
 ghost use Rattle.std.specs.Prelude.{◌≡◌, ◌++◌, ◌<◌, length, take, drop, true, IsCharBoundary};
-ghost use Rattle.html_tokens.specs.States.State.{Data};
-ghost use Rattle.html_tokens.specs.Tokenizer.{read, chars as char_tokens};
-ghost use Rattle.html_tokens.specs.Input.{input, read_as};
+ghost use Rattle.html_syntax.specs.States.State.{Data};
+ghost use Rattle.html_syntax.specs.Tokenizer.{read, chars as char_tokens};
+ghost use Rattle.html_references.specs.Input.{input, read_as};
 ghost use Rattle.html_tokens.specs.Scanned.{opens_markup as opens};
-ghost use Rattle.html_tokens.specs.declared.stretch.ReadAs.TheVariants.{Text};
+ghost use Rattle.html_references.specs.declared.stretch.ReadAs.TheVariants.{Text};
 
 use crate::cuts::place_of;
 

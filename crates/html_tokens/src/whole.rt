@@ -1,7 +1,7 @@
 //! All the tokens of a text.
 ghost use Rattle.std.specs.Prelude.{◌≡◌, IfOk, chars};
-ghost use Rattle.html_tokens.specs.Held.{meanings};
-ghost use Rattle.html_tokens.specs.Tokenizer.{tokens};
+ghost use Rattle.html_syntax.specs.Held.{meanings};
+ghost use Rattle.html_syntax.specs.Tokenizer.{tokens};
 
 use crate::{Memory, Scanner, Token};
 use std::alloc::Global;

@@ -15,6 +15,3 @@ pub use memory::{MemorySink, MemorySource};
 pub use outside::{Failed, Sink, Source};
 pub use standard::{ReaderSource, WriterSink};
 pub use stream::{InputFault, read_to_end, write_whole};
-
-#[cfg(test)]
-mod tests;

@@ -3,6 +3,7 @@ mod Newsletter
 mod BestExamples
 mod MalformedExamples
 pub mod BodyLemmas
+pub mod SearchLemmas
 pub mod PieceLemmas
 pub mod OpeningLemmas
 pub mod BestLemmas

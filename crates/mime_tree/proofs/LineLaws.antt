@@ -10,8 +10,8 @@ use Rattle.std.specs.Str.Lines.{lines, strip_carriage_return}
 use Rattle.header_words.specs.Lines.{is_newline, first_text, first_size}
 use Rattle.header_words.proofs.FirstLine as header
 use Rattle.mime_tree.specs.declared.body.Range.{Range}
-use Rattle.mime_tree.specs.Body.{Line, lines_from, is_delimiter, delimits, closes, places, places_between, places_after, range, IsWithin}
-use Rattle.mime_tree.proofs.BodyLemmas.{line, lines_step, text_fits}
+use Rattle.mime_tree.specs.Body.{Line, lines_from, is_delimiter, delimits, closes, places, places_between, places_after, range, IsWithin, line_of}
+use Rattle.mime_tree.proofs.BodyLemmas.{lines_step, text_fits}
 
 -- each line passes a test
 abbrev pub Each : (List ℕ → Bool) → List ℕ → Type 0
@@ -132,15 +132,15 @@ on_delimiters boundary start at xs more h =
     let n = first_size xs in
     let l = first_text xs in
     let rest = delimiters_of boundary (at + length l) (at + n) (drop n xs) in
-    ap (filter (is_delimiter boundary)) (lines_step start at xs more) ∙ ap (λ t. cond t (line start (at + n) l ∷ rest) rest) h
+    ap (filter (is_delimiter boundary)) (lines_step start at xs more) ∙ ap (λ t. cond t (line_of start (at + n) l ∷ rest) rest) h
 
 cut_here : (boundary : List ℕ) (q : List ℕ → Bool) (start at : ℕ) (xs : List ℕ) → 0 < length xs → delimits boundary (first_text xs) ≡ true → DelimitsOr boundary q (drop (first_size xs) xs) → Cut boundary q start at xs
 cut_here boundary q start at xs more h rest =
     let n = first_size xs in
     let l = first_text xs in
-    let ds : delimiters_of boundary start at xs ≡ line start (at + n) l ∷ delimiters_of boundary (at + length l) (at + n) (drop n xs) =
-    ap (filter (is_delimiter boundary)) (lines_step start at xs more) ∙ ap (λ t. cond t (line start (at + n) l ∷ delimiters_of boundary (at + length l) (at + n) (drop n xs)) (delimiters_of boundary (at + length l) (at + n) (drop n xs))) h in
-    some (line start (at + n) l) (delimiters_of boundary (at + length l) (at + n) (drop n xs)) 0 n (at + length l) ds (inl (refl, refl)) (omega arith) refl (size_some xs more) (size_fits xs) (omega (arith, text_fits xs)) refl rest refl
+    let ds : delimiters_of boundary start at xs ≡ line_of start (at + n) l ∷ delimiters_of boundary (at + length l) (at + n) (drop n xs) =
+    ap (filter (is_delimiter boundary)) (lines_step start at xs more) ∙ ap (λ t. cond t (line_of start (at + n) l ∷ delimiters_of boundary (at + length l) (at + n) (drop n xs)) (delimiters_of boundary (at + length l) (at + n) (drop n xs))) h in
+    some (line_of start (at + n) l) (delimiters_of boundary (at + length l) (at + n) (drop n xs)) 0 n (at + length l) ds (inl (refl, refl)) (omega arith) refl (size_some xs more) (size_fits xs) (omega (arith, text_fits xs)) refl rest refl
 
 -- a line that doesn't delimit goes before the rest
 cut_on : (boundary : List ℕ) (q : List ℕ → Bool) (start at : ℕ) (xs : List ℕ) → 0 < length xs → delimits boundary (first_text xs) ≡ false → q (first_text xs) ≡ true → Cut boundary q (at + length (first_text xs)) (at + first_size xs) (drop (first_size xs) xs) → Cut boundary q start at xs

@@ -1,16 +1,21 @@
 -- What stands in a node, and the tree after so many steps.
-use Rattle.std.proofs.Common.{◌≡◌, ℕ, zero, suc, ◌+◌, ◌-◌, ◌<◌, ◌≤◌, ◌*◌, inl, inr, Bool, true, false, ◌&&◌, cond, List, [], ◌∷◌, ◌++◌, length, drop, get_or, refl, sym, ap, ◌∙◌, subst, arith, length-append, append_assoc, add-one, drop-cons}
+use Rattle.std.proofs.Common.{◌≡◌, ℕ, zero, suc, ◌+◌, ◌-◌, ◌<◌, ◌≤◌, ◌*◌, inl, inr, Bool, true, false, ◌&&◌, cond, List, [], ◌∷◌, ◌++◌, length, take, drop, get_or, refl, sym, ap, ◌∙◌, subst, arith, length-append, append_assoc, add-one, drop-cons}
 use Rattle.std.proofs.lemmas.Bool.{and_parts, cases_Bool, le-leb, lt-leb, leb-true}
 use Rattle.std.proofs.lemmas.List.Elements.{All-append, All-push}
-use Rattle.std.proofs.lemmas.List.{reverse-append, length-reverse}
-use Rattle.std.specs.Prelude.{All, Some, reverse, unwrap_or, slice_range, codes}
+use Rattle.std.proofs.lemmas.List.{reverse-append, length-reverse, take_all}
+use Rattle.std.specs.Prelude.{All, Some, None, reverse, unwrap_or, slice_range, codes}
 use Rattle.mime_tree.specs.declared.body.Range.{Range}
 use Rattle.mime_tree.specs.declared.node.Position.TheVariants.{Body, Child}
 use Rattle.mime_tree.specs.declared.node.Node.{Node}
 use Rattle.mime_tree.specs.Tree.{PartValue}
 use Rattle.mime_tree.specs.Body.{places, range}
-use Rattle.mime_tree.specs.Content.{is_multipart, default_in}
+use Rattle.header_words.specs.Fields.{Header, header_of}
+use Rattle.mime_tree.specs.declared.content.Content.{Content}
+use Rattle.mime_tree.specs.Content.{content_of, is_multipart, default_in}
 use Rattle.mime_tree.specs.Opening.{Opened, node_at, children_from, inside, can_open, own, part_of, section_of, prefix_of, is_body, is_raw, opens_beside, settle, opened, IsSound, parts_of, message_of}
+
+abbrev message_at : ℕ → ℕ → Content → Node
+message_at body to content = record { position = Body None; around = 0; enclosed = false; body = body; to = to; content = content }
 
 abbrev pub opened_of : List PartValue → List Node → Opened
 opened_of parts waiting = record { parts = parts; waiting = waiting }
@@ -104,6 +109,18 @@ children_pushed bytes n i rs r nodes now child whole h e f g s =
     let more = children_from bytes n (i + 1 + 1) (drop (i + 1) rs) in
     ap (λ ns. ns ++ more) (g ∙ ap (λ c. nodes ++ c ∷ []) f) ∙ append_assoc nodes (child_at bytes n (i + 1) r ∷ []) more
     ∙ ap (λ ns. nodes ++ ns) (sym (children_step bytes n i rs r h e)) ∙ s
+
+-- the message, as its header says it
+pub message_is : (bytes : List ℕ) (header : Header) (body : ℕ) (content : Content) → header ≡ header_of bytes → body ≡ header.body → content ≡ content_of (codes "text/plain") header.fields → record { position = Body None; around = 0; enclosed = false; body = body; to = length bytes; content = content } ≡ message_of bytes
+unfolding message_of node_at
+message_is bytes header body content h b c =
+    let whole : take (length bytes - 0) bytes ≡ bytes = take_all (length bytes - 0) bytes (omega arith) in
+    let read : header_of bytes ≡ header_of (take (length bytes - 0) bytes) = ap header_of (sym whole) in
+    let is : header ≡ header_of (take (length bytes - 0) bytes) = h ∙ read in
+    let start : (header_of (take (length bytes - 0) bytes)).body ≡ 0 + (header_of (take (length bytes - 0) bytes)).body = omega arith in
+    ap (λ k. message_at k (length bytes) content) b ∙ ap (λ k. message_at header.body (length bytes) k) c
+    ∙ ap (λ (k : Header). message_at k.body (length bytes) (content_of (codes "text/plain") k.fields)) is
+    ∙ ap (λ k. message_at k (length bytes) (content_of (codes "text/plain") (header_of (take (length bytes - 0) bytes)).fields)) start
 
 -- the message alone waits
 pub start_stands : (bytes : List ℕ) (parts : List PartValue) (none waiting : List Node) (m : Node) → parts ≡ [] → none ≡ [] → waiting ≡ none ++ m ∷ [] → m ≡ message_of bytes → (opened bytes 2001 parts (reverse waiting)).parts ≡ parts_of bytes

@@ -1,5 +1,5 @@
 -- The lines of a text, the delimiter lines of a boundary among them, and the places between those.
-use Rattle.std.specs.Prelude.{ℕ, ◌+◌, ◌≤◌, Bool, ◌&&◌, ◌||◌, List, [], ◌∷◌, length, drop, max, if◌then◌else◌, filter, nat_eq, nat_lt, codes}
+use Rattle.std.specs.Prelude.{ℕ, ◌+◌, ◌≤◌, Bool, ◌&&◌, ◌||◌, List, [], ◌∷◌, ◌++◌, Option, Some, None, length, drop, max, if◌then◌else◌, filter, nat_eq, nat_lt, codes}
 use Rattle.std.specs.List.{slice_split, list_all, starts_with}
 use Rattle.std.specs.Str.Lines.{strip_carriage_return}
 use Rattle.header_words.specs.Fields.{is_blank}
@@ -46,6 +46,10 @@ is_delimiter boundary l = delimits boundary l.text
 abbrev pub range : ℕ → ℕ → Range
 range from to = record { from = from; to = to }
 
+-- the delimiter lines of a text whose first line begins at `at`, after a line break that begins at `start`
+abbrev pub delimiters : List ℕ → ℕ → ℕ → List ℕ → List Line
+delimiters boundary start at text = filter (is_delimiter boundary) (lines_from start at text)
+
 -- the places after a delimiter that ends at `from`: each goes to the line break before the next delimiter, the last to the end of the text
 abbrev pub places_after : List ℕ → ℕ → ℕ → List Line → List Range
 places_after boundary end from [] = range from end ∷ []
@@ -58,7 +62,15 @@ places_between boundary end (d ∷ more) = if closes boundary d.text then [] els
 
 -- the places of a multipart's parts in its body
 unfoldable pub places : List ℕ → List ℕ → List Range
-places boundary text = places_between boundary (length text) (filter (is_delimiter boundary) (lines_from 0 0 text))
+places boundary text = places_between boundary (length text) (delimiters boundary 0 0 text)
+
+-- the places with that of the part that is begun, if one is, up to a line break
+abbrev pub with_part : List Range → Option ℕ → ℕ → List Range
+with_part found None line_break = found
+with_part found (Some from) line_break = found ++ range from (max from line_break) ∷ []
+
+abbrev pub line_of : ℕ → ℕ → List ℕ → Line
+line_of start next text = record { start = start; next = next; text = text }
 
 -- a place within a text of this length
 pub record IsWithin (size : ℕ) (r : Range) : Type 0 where

@@ -5,7 +5,7 @@ use Rattle.std.specs.Option.{option_map_or, option_or}
 use Rattle.std.specs.Str.{str_to_ascii_lowercase, str_eq_ignore_ascii_case}
 use Rattle.std.specs.Str.Lossy.{utf8_lossy}
 use Rattle.header_words.specs.Fields.{FieldValue, first_of}
-use Rattle.header_words.specs.Value.{trimmed, unfolded, words_decoded}
+use Rattle.header_words.specs.Value.{trimmed, unfolded, decoded_text}
 use Rattle.transfer_codings.specs.declared.coding.Coding.{Coding}
 use Rattle.transfer_codings.specs.declared.coding.Coding.TheVariants.{Plain, Base64, Quoted}
 use Rattle.mime_tree.specs.declared.content.Content.{Content}
@@ -50,7 +50,7 @@ text_of found default = option_map_or utf8_lossy found default
 
 -- the name of a file, with its encoded words decoded, or nothing
 abbrev pub name_of : Option (List ℕ) → List ℕ
-name_of found = option_map_or words_decoded found []
+name_of found = option_map_or decoded_text found []
 
 -- the coding of a Content-Transfer-Encoding, if it is known; a missing one is 7bit
 abbrev pub coding_named : List ℕ → Option Coding

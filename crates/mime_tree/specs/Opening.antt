@@ -113,7 +113,7 @@ unfoldable pub parts_of : List ℕ → List PartValue
 parts_of bytes = (opened bytes 2001 [] (message_of bytes ∷ [])).parts
 
 unfoldable pub tree_of : List ℕ → TreeValue
-tree_of bytes = record { alternative = is_alternative (message_of bytes).content.mime; parts = parts_of bytes }
+tree_of bytes = record { header = header_of bytes; alternative = is_alternative (message_of bytes).content.mime; parts = parts_of bytes }
 
 -- a part is a place of the message
 pub record IsPlaced (bytes : List ℕ) (p : PartValue) : Type 0 where

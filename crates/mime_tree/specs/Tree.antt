@@ -1,5 +1,6 @@
 -- The tree of a message as callers see it.
 use Rattle.std.specs.Prelude.{ℕ, Bool, List, Option}
+use Rattle.header_words.specs.Fields.{Header}
 use Rattle.transfer_codings.specs.declared.coding.Coding.{Coding}
 
 -- a part: its section, what its header says of it, whether it stands in a message in the message, and the place of its body
@@ -17,7 +18,8 @@ pub record PartValue : Type 0 where
   pub start : ℕ
   pub bytes : List ℕ
 
--- the parts in tree order, and whether the message itself is an alternative
+-- the fields of the message, its parts in tree order, and whether the message itself is an alternative
 pub record TreeValue : Type 0 where
+  pub header : Header
   pub alternative : Bool
   pub parts : List PartValue

@@ -4,13 +4,12 @@ ghost use Rattle.std.specs.List.{list_all};
 ghost use Rattle.std.specs.Option.{option_or};
 ghost use Rattle.std.specs.Str.{str_to_ascii_lowercase};
 ghost use Rattle.std.specs.Str.Lossy.{utf8_lossy};
-ghost use Rattle.header_words.specs.Value.{trimmed, words_decoded};
+ghost use Rattle.header_words.specs.Value.{trimmed, decoded_text};
 ghost use Rattle.mime_tree.specs.Pieces.{parameter, first_piece};
 ghost use Rattle.mime_tree.specs.Content.{content_of, field_value, is_token, is_token_byte, is_type, readable, mime_of, filled, text_of, name_of, coding_named, is_attachment, id_in, location_in, is_word, format_of, is_multipart, is_message, is_alternative};
 
-use crate::lines::{is_named, place_of};
 use crate::pieces::{first_piece, parameter};
-use header_words::{Fields, decoded_words, trim, unfolded};
+use header_words::{Fields, decoded_words, find_byte, trim, unfolded};
 use mail_values::{Bytes, Text};
 use std::alloc::{AllocError, Global};
 use transfer_codings::Coding;
@@ -84,7 +83,7 @@ fn readable_type(alloc: Global, fields: &Fields<'_>) -> Result<Bytes, AllocError
 fn is_type(text: &[u8]) -> bool
     ensures { result ≡ is_type text.now }
 {
-    let at = place_of(b'/', text);
+    let at = find_byte(b'/', text);
     at < text.len() && is_token(&text[..at]) && is_token(&text[at + 1..])
 }
 
@@ -155,16 +154,16 @@ fn coding_of(name: &[u8]) -> Option<Coding>
     ensures { result ≡ coding_named name.now }
 {
     if name.is_empty()
-        || is_named(name, b"7bit")
-        || is_named(name, b"8bit")
-        || is_named(name, b"binary")
+        || name.eq_ignore_ascii_case(b"7bit")
+        || name.eq_ignore_ascii_case(b"8bit")
+        || name.eq_ignore_ascii_case(b"binary")
     {
         return Some(Coding::Plain);
     }
-    if is_named(name, b"base64") {
+    if name.eq_ignore_ascii_case(b"base64") {
         return Some(Coding::Base64);
     }
-    if is_named(name, b"quoted-printable") {
+    if name.eq_ignore_ascii_case(b"quoted-printable") {
         return Some(Coding::Quoted);
     }
     None
@@ -173,7 +172,7 @@ fn coding_of(name: &[u8]) -> Option<Coding>
 fn is_attached(disposition: &[u8]) -> bool
     ensures { result ≡ is_attachment disposition.now }
 {
-    is_named(first_piece(disposition), b"attachment")
+    first_piece(disposition).eq_ignore_ascii_case(b"attachment")
 }
 
 /// The name of a file that a part is to be saved as.
@@ -191,7 +190,7 @@ fn name(alloc: Global, disposition: &[u8], kind: &[u8]) -> Result<Text, AllocErr
 
 /// The text of a parameter that names a file: many mailers write encoded words there.
 fn named(alloc: Global, value: &[u8]) -> Result<Text, AllocError>
-    ensures { IfOk result (λ text. text ≡ words_decoded value.now) }
+    ensures { IfOk result (λ text. text ≡ decoded_text value.now) }
 {
     Ok(Text::from_string(decoded_words(alloc, value)?))
 }
@@ -220,7 +219,7 @@ fn is_word(word: &[u8], found: &Option<Bytes>) -> bool
     ensures { result ≡ is_word word.now found.now }
 {
     match found {
-        Some(value) => is_named(value.as_slice(), word),
+        Some(value) => value.as_slice().eq_ignore_ascii_case(word),
         None => false,
     }
 }

@@ -1,5 +1,6 @@
 //! Opens the multiparts and messages of a message, in tree order.
 ghost use Rattle.std.specs.Prelude.{◌≡◌, ◌+◌, ◌-◌, ◌<◌, ◌≤◌, ◌++◌, ◌∷◌, [], length, IfOk, OnOk, IfSome, IfNone, All, reverse, codes, unwrap_or, slice_range, true, false, ◌&&◌, IsTrue, Some, None};
+ghost use Rattle.header_words.specs.Fields.{header_of};
 ghost use Rattle.mail_values.specs.Section.{numbers_of};
 ghost use Rattle.mime_tree.specs.Body.{IsWithin};
 ghost use Rattle.mime_tree.specs.Content.{is_multipart, is_message, is_alternative, default_in};
@@ -11,7 +12,7 @@ use crate::body::{Range, places_within};
 use crate::content::{Content, read_content};
 use crate::node::{Node, Position};
 use crate::parts::Part;
-use header_words::fields;
+use header_words::{Fields, fields};
 use mail_values::Section;
 use std::alloc::{AllocError, Global};
 
@@ -25,24 +26,21 @@ const MOST_STEPS: usize = 2001;
 const MOST_AROUND: usize = 32;
 
 /// The message itself, not yet opened.
-#[tactic(auto, unfolding(crate::specs::Opening::message_of))]
-pub fn message(alloc: Global, bytes: &[u8]) -> Result<Node, AllocError>
-    ensures is { IfOk result (λ n. n ≡ message_of bytes.now) }
+pub fn message(alloc: Global, bytes: &[u8], header: &Fields<'_>) -> Result<Node, AllocError>
+    requires header { header.now ≡ header_of bytes.now }
+    requires within { header.now.body ≤ length bytes.now }
+    ensures equals { IfOk result (λ n. n ≡ message_of bytes.now) }
     ensures sound { IfOk result (λ n. IsSound bytes.now n) }
 {
-    let whole = Range {
-        from: 0,
+    let content = read_content(alloc, "text/plain", header)?;
+    Ok(Node {
+        position: Position::Body(None),
+        around: 0,
+        enclosed: false,
+        body: header.body_at(),
         to: bytes.len(),
-    };
-    node_in(
-        alloc,
-        bytes,
-        "text/plain",
-        Position::Body(None),
-        0,
-        false,
-        whole,
-    )
+        content,
+    })
 }
 
 /// The parts of a message.

@@ -4,6 +4,7 @@ ghost use Rattle.std.specs.Option.{option_copied};
 ghost use Rattle.mime_tree.specs.Content.{is_multipart, is_message};
 
 use crate::content::{Content, has_message, has_parts};
+use header_words::Fields;
 use mail_values::Section;
 use std::marker::Model;
 use transfer_codings::Coding;
@@ -32,6 +33,7 @@ impl<'a> Model for Part<'a> {
 /// The tree of a message: its parts in tree order. The multipart that is the whole body of a message is none of them.
 #[derive(Drop)]
 pub struct Tree<'a> {
+    fields: Fields<'a>,
     alternative: bool,
     parts: Vec<Part<'a>>,
 }
@@ -41,7 +43,7 @@ impl<'a> Model for Tree<'a> {
 
     ghost Value = { TreeValue };
 
-    ghost view = { λ t. record { alternative = t.alternative; parts = t.parts.items } };
+    ghost view = { λ t. record { header = t.fields; alternative = t.alternative; parts = t.parts.items } };
 }
 
 impl<'a> Part<'a> {
@@ -167,10 +169,21 @@ impl<'a> Part<'a> {
 }
 
 impl<'a> Tree<'a> {
-    pub(crate) fn new(alternative: bool, parts: Vec<Part<'a>>) -> Tree<'a>
-        ensures { result ≡ record { alternative = alternative; parts = parts.entry.items } }
+    pub(crate) fn new(fields: Fields<'a>, alternative: bool, parts: Vec<Part<'a>>) -> Tree<'a>
+        ensures { result ≡ record { header = fields.entry; alternative = alternative; parts = parts.entry.items } }
     {
-        Tree { alternative, parts }
+        Tree {
+            fields,
+            alternative,
+            parts,
+        }
+    }
+
+    /// The header fields of the message, and where its body begins.
+    pub fn fields(&self) -> &Fields<'a>
+        ensures { result.now ≡ self.now.header }
+    {
+        &self.fields
     }
 
     /// The parts in tree order.

@@ -1,10 +1,10 @@
 //! The pieces of a structured field, and the parameters among them (RFC 2045 §5.1, RFC 2183 §2).
 ghost use Rattle.std.specs.Prelude.{◌≡◌, ◌≤◌, length, IfOk, OnOk};
+ghost use Rattle.std.specs.Str.{str_eq_ignore_ascii_case};
 ghost use Rattle.mime_tree.specs.Pieces.{quoting_after, cuts, size_from, first_piece, is_kept, with_kept, is_outside, unquoted, text_of_value, value_in, parameter};
 ghost use Rattle.mime_tree.specs.declared.pieces.Quoting.TheVariants.{Inside, Outside};
 
-use crate::lines::{is_named, place_of};
-use header_words::trim;
+use header_words::{find_byte, trim};
 use mail_values::Bytes;
 use std::alloc::{AllocError, Global};
 
@@ -89,11 +89,17 @@ pub fn parameter(alloc: Global, name: &[u8], value: &[u8]) -> Result<Option<Byte
 fn value_in(alloc: Global, name: &[u8], piece: &[u8]) -> Result<Option<Bytes>, AllocError>
     ensures { IfOk result (λ found. found ≡ value_in name.now piece.now) }
 {
-    let at = place_of(b'=', piece);
+    let at = find_byte(b'=', piece);
     if at < piece.len() && is_named(trim(&piece[..at]), name) {
         return text_of_value(alloc, trim(&piece[at + 1..]));
     }
     Ok(None)
+}
+
+fn is_named(text: &[u8], name: &[u8]) -> bool
+    ensures { result ≡ str_eq_ignore_ascii_case text.now name.now }
+{
+    text.eq_ignore_ascii_case(name)
 }
 
 fn text_of_value(alloc: Global, value: &[u8]) -> Result<Option<Bytes>, AllocError>

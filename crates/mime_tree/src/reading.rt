@@ -5,6 +5,7 @@ ghost use Rattle.mime_tree.specs.Laws.{HasDistinctSections};
 
 use crate::opening::{message, parts_in};
 use crate::parts::Tree;
+use header_words::fields;
 use std::alloc::{AllocError, Global};
 
 /// The tree of a message. Every byte string has one, so only memory can fail. Each part is a place of the message.
@@ -15,8 +16,9 @@ pub fn tree(alloc: Global, bytes: &[u8]) -> Result<Tree<'_>, AllocError>
     ensures distinct { IfOk result (λ t. HasDistinctSections t.parts) }
     ensures placed { IfOk result (λ t. All (IsPlaced bytes.now) t.parts) }
 {
-    let message = message(alloc, bytes)?;
+    let header = fields(alloc, bytes)?;
+    let message = message(alloc, bytes, &header)?;
     let alternative = message.content.is_alternative();
     let parts = parts_in(alloc, bytes, message)?;
-    Ok(Tree::new(alternative, parts))
+    Ok(Tree::new(header, alternative, parts))
 }

@@ -7,12 +7,12 @@ use Rattle.std.proofs.lemmas.Grind.{flat_map-append}
 use Rattle.std.proofs.lemmas.Bool.Decides.{nat_tests}
 use Rattle.std.proofs.lemmas.List.Folds.{list_all_more}
 use Rattle.std.specs.List.{flat_map, AllByRecursion}
-use Rattle.html_tokens.specs.Token.{Attribute, name_at, value_at, none}
-use Rattle.html_tokens.specs.Token.Token.{Start, End}
+use Rattle.html_syntax.specs.Token.{Attribute, name_at, value_at, no_attribute}
+use Rattle.html_syntax.specs.Token.Token.{Start, End}
 use Rattle.page_writer.specs.Page.{spell_char, spell_chars, spell_attribute, spell_attributes, spell_token}
 use Rattle.page_writer.specs.Bytes.{spell_byte, spell_bytes, attribute_bytes, Extends, AreTexts}
-use Rattle.page_writer.proofs.Facts.{spelled}
-use Rattle.page_writer.proofs.Facts.Spelled.{is_lt, is_gt, is_amp, is_quot, is_cr, itself}
+use Rattle.page_writer.proofs.Names.{spelled}
+use Rattle.page_writer.proofs.Names.Spelled.{is_lt, is_gt, is_amp, is_quot, is_cr, itself}
 use Rattle.std.specs.Option.{is_some}
 use Rattle.memchr.specs.Find.{is_byte3, IsFirstByte}
 use lib.Utf8.{encode, encodes, scalars}
@@ -185,9 +185,9 @@ pub attributes_step : (as_list : List Attribute) (i : ℕ) (o o1 all name value 
     → o1 ≡ o ++ attribute_bytes name (chars value)
     → o ++ encode_utf8_all (spell_attributes (drop i as_list)) ≡ all → o1 ++ encode_utf8_all (spell_attributes (drop (i + 1) as_list)) ≡ all
 attributes_step as_list i o o1 all name value lt en ev e1 held =
-    let a : Attribute = slice_index_or as_list i none in
+    let a : Attribute = slice_index_or as_list i no_attribute in
     let rest = drop (i + 1) as_list in
-    let split = at_drop_more (λ (l : List Attribute). o ++ encode_utf8_all (spell_attributes l)) as_list i none lt in
+    let split = at_drop_more (λ (l : List Attribute). o ++ encode_utf8_all (spell_attributes l)) as_list i no_attribute lt in
     let written : o1 ≡ o ++ encode_utf8_all (spell_attribute a) = e1 ∙ ap (λ (x : List ℕ). o ++ x) (ap (λ (n : List ℕ). attribute_bytes n (chars value)) en ∙ ap (λ (v : List ℕ). attribute_bytes (encode_utf8_all a.name) v) ev ∙ sym (attribute_is a)) in
     rw written (append_assoc o _ _ ∙ ap (λ (b : List ℕ). o ++ b) (sym (encodes-append (spell_attribute a) (spell_attributes rest))) ∙ sym split ∙ held)
 
@@ -196,7 +196,7 @@ pub texts_step : (as_list : List Attribute) (i : ℕ) (value : List ℕ) → i <
 unfolding AreTexts
 texts_step as_list i value lt utf8 ev held =
     let fine : scalars (value_at as_list i) ≡ true = ap scalars (sym ev) ∙ scalars-chars value utf8 in
-    rw (list_all_more (λ (a : Attribute). scalars a.value) as_list i none lt, held, fine) refl
+    rw (list_all_more (λ (a : Attribute). scalars a.value) as_list i no_attribute lt, held, fine) refl
 
 pub end_bytes : (name o0 o1 o2 o3 : List ℕ) → IsUtf8 name → o1 ≡ o0 ++ codes "</" → o2 ≡ o1 ++ name → o3 ≡ o2 ++ codes ">" → o3 ≡ o0 ++ encode_utf8_all (spell_token (End (chars name)))
 unfolding encode

@@ -1,17 +1,17 @@
 -- Attributes whose names differ, as the tokenizer meets them one after the other.
 use Rattle.std.proofs.Common.{◌≡◌, ℕ, true, false, not, List, [], ◌∷◌, ◌++◌, IsTrue, refl, sym, ap, ◌∙◌, append_assoc}
 use Rattle.std.specs.List.{AllByRecursion}
-use Rattle.html_tokens.specs.Token.{Attribute}
-use Rattle.html_tokens.specs.Tokenizer.{has_name, same}
-use Rattle.page_writer.specs.Tables.{is_attribute_name}
-use Rattle.page_writer.specs.Page.{IsShown, are_attributes, are_distinct}
-use Rattle.page_writer.proofs.Facts.{and_true, no_of, or_false, same-true, same-refl}
+use Rattle.html_syntax.specs.Token.{Attribute}
+use Rattle.html_syntax.specs.Tokenizer.{has_name, same}
+use Rattle.html_rules.specs.Tables.{is_attribute_name}
+use Rattle.page_writer.specs.Page.{IsWritable, are_attributes, are_distinct}
+use Rattle.html_rules.proofs.Facts.{and_true, no_of, or_false, same-true, same-refl}
 
 -- of the lists, with values that can be shown, and none of a name that stands before it
 abbrev pub AreAttributes : List Attribute → List Attribute → Type 0
 AreAttributes earlier [] = Unit {0}
 AreAttributes earlier (a ∷ rest) =
-    IsTrue (is_attribute_name a.name) × IsTrue (not (has_name a.name earlier)) × AllByRecursion IsShown a.value × AreAttributes (earlier ++ a ∷ []) rest
+    IsTrue (is_attribute_name a.name) × IsTrue (not (has_name a.name earlier)) × AllByRecursion IsWritable a.value × AreAttributes (earlier ++ a ∷ []) rest
 
 same-sym : (xs ys : List ℕ) → same xs ys ≡ false → same ys xs ≡ false
 same-sym xs ys h =
@@ -33,7 +33,7 @@ none_before (e ∷ earlier) a rest h =
     let apart : same e.name a.name ≡ false = same-sym a.name e.name (not_named e.name earlier a rest (no_of (has_name e.name (earlier ++ a ∷ rest)) both.0)) in
     rw apart (none_before earlier a rest both.1)
 
-pub attributes_of : (earlier more : List Attribute) → are_attributes more ≡ true → are_distinct (earlier ++ more) ≡ true → AllByRecursion (λ a. AllByRecursion IsShown a.value) more → AreAttributes earlier more
+pub attributes_of : (earlier more : List Attribute) → are_attributes more ≡ true → are_distinct (earlier ++ more) ≡ true → AllByRecursion (λ a. AllByRecursion IsWritable a.value) more → AreAttributes earlier more
 attributes_of earlier [] known distinct shown = tt
 attributes_of earlier (a ∷ rest) known distinct shown =
     let both = and_true (is_attribute_name a.name) (are_attributes rest) known in (

@@ -4,23 +4,24 @@ use Rattle.std.proofs.lemmas.Bool.Decides.{nat_tests}
 use Rattle.std.proofs.lemmas.Str.{utf8_lossy-IsUtf8, chars-encodes}
 use lib.Utf8.{scalar, scalars, encodes}
 use Rattle.std.specs.List.{list_all, AllByRecursion}
-use Rattle.html_tokens.specs.Token.{Attribute, Token}
-use Rattle.html_tokens.specs.Token.Token.{Start, End, Char, Comment, Doctype}
-use Rattle.html_tokens.specs.Tokenizer.{State, at_end, read, after_start, is_among, same, raw_names, newlines, tokens, tokens_of_bytes}
-use Rattle.html_tokens.specs.Tokenizer.Kind.{Rcdata}
-use Rattle.html_tokens.specs.Tokenizer.State.{Data, Raw}
-use Rattle.html_tokens.specs.References.{is_between}
-use Rattle.page_writer.specs.Page.{IsShown, spell_char, spell_chars, spell_attribute, spell_attributes, spell_token, spell, takes_tags, MayCome, inside_after, Leads}
-use Rattle.page_writer.specs.Tables.{is_element, is_text, is_void, message_elements, frame_elements, text_elements, message_voids, frame_voids}
+use Rattle.html_syntax.specs.Token.{Attribute, Token}
+use Rattle.html_syntax.specs.Token.Token.{Start, End, Char, Comment, Doctype}
+use Rattle.html_syntax.specs.Tokenizer.{State, tokens_at_end, read, state_after_start, is_among, same, raw_names, normalize_newlines, tokens, tokens_of_bytes}
+use Rattle.html_syntax.specs.Tokenizer.RawTextKind.{Rcdata}
+use Rattle.html_syntax.specs.Tokenizer.State.{Data, Raw}
+use Rattle.html_syntax.specs.References.{is_between}
+use Rattle.page_writer.specs.Page.{IsWritable, spell_char, spell_chars, spell_attribute, spell_attributes, spell_token, spell, takes_tags, MayAppend, open_elements_after_token, MayAppendAll}
+use Rattle.html_rules.specs.Tables.{is_element, is_text_only, is_void, message_elements, frame_elements, text_only_elements, message_void_elements, frame_void_elements}
 use Rattle.page_writer.proofs.Distinct.{AreAttributes, attributes_of}
-use Rattle.page_writer.proofs.Facts.{same-true, among_all, and_true, no_of, is_name, is_name_char, name_chars, element_name, attribute_name, spelled}
-use Rattle.page_writer.proofs.Facts.Spelled.{is_lt, is_gt, is_amp, is_quot, is_cr, itself}
+use Rattle.html_rules.proofs.Facts.{same-true, among_all, and_true, no_of}
+use Rattle.page_writer.proofs.Names.{is_name, is_name_char, name_chars, element_name, attribute_name, spelled}
+use Rattle.page_writer.proofs.Names.Spelled.{is_lt, is_gt, is_amp, is_quot, is_cr, itself}
 use Rattle.page_writer.proofs.Reading.{not_nul, data_char, text_char, start_reads, end_reads, title_end, textarea_end, doctype_reads}
 
 -- the state in which a page stands where these elements are open
 abbrev state_in : List (List ℕ) → State
 state_in [] = Data
-state_in (name ∷ names) = cond (is_text name) (Raw Rcdata name) Data
+state_in (name ∷ names) = cond (is_text_only name) (Raw Rcdata name) Data
 
 -- only the innermost element may be text alone
 abbrev IsStack : List (List ℕ) → Type 0
@@ -29,23 +30,23 @@ IsStack (name ∷ names) = IsTrue (takes_tags names) × IsStack names
 
 in_data : (inside : List (List ℕ)) → IsTrue (takes_tags inside) → state_in inside ≡ Data
 in_data [] h = refl
-in_data (name ∷ names) h = rw (no_of (is_text name) h) refl
+in_data (name ∷ names) h = rw (no_of (is_text_only name) h) refl
 
 nothing_at_end : (inside : List (List ℕ)) → read (state_in inside) 0 [] ≡ []
-unfolding at_end read
+unfolding tokens_at_end read
 nothing_at_end [] = refl
-nothing_at_end (name ∷ names) = elim (is_text name) as (λ b. read (cond b (Raw Rcdata name) Data) 0 [] ≡ []) [ true ↦ refl | false ↦ refl ]
+nothing_at_end (name ∷ names) = elim (is_text_only name) as (λ b. read (cond b (Raw Rcdata name) Data) 0 [] ≡ []) [ true ↦ refl | false ↦ refl ]
 
 -- what the table says of each element: it isn't raw, and none is void and text
 abbrev isnt_raw : List ℕ → Bool
-isnt_raw name = not (is_among raw_names name) && (not (same (codes "script") name) && (not (same (codes "plaintext") name) && not (is_void name && is_text name)))
+isnt_raw name = not (is_among raw_names name) && (not (same (codes "script") name) && (not (same (codes "plaintext") name) && not (is_void name && is_text_only name)))
 
 not_raw : (name : List ℕ) → is_element name ≡ true → isnt_raw name ≡ true
-unfolding is_element message_elements frame_elements is_text text_elements is_void message_voids frame_voids
+unfolding is_element message_elements frame_elements is_text_only text_only_elements is_void message_void_elements frame_void_elements
 not_raw name h = among_all isnt_raw (message_elements ++ frame_elements) name refl h
 
-state_after : (name : List ℕ) → is_element name ≡ true → after_start name ≡ cond (is_text name) (Raw Rcdata name) Data
-unfolding is_text text_elements
+state_after : (name : List ℕ) → is_element name ≡ true → state_after_start name ≡ cond (is_text_only name) (Raw Rcdata name) Data
+unfolding is_text_only text_only_elements
 state_after name h =
     let a = and_true (not (is_among raw_names name)) _ (not_raw name h) in
     let b = and_true (not (same (codes "script") name)) _ a.1 in
@@ -56,17 +57,17 @@ not_both : (a b : Bool) → not (a && b) ≡ true → a ≡ true → b ≡ false
 not_both true b h e = no_of b h
 not_both false b h e = absurd cc
 
-void_isnt_text : (name : List ℕ) → is_element name ≡ true → is_void name ≡ true → is_text name ≡ false
+void_isnt_text : (name : List ℕ) → is_element name ≡ true → is_void name ≡ true → is_text_only name ≡ false
 void_isnt_text name h v =
     let a = and_true (not (is_among raw_names name)) _ (not_raw name h) in
     let b = and_true (not (same (codes "script") name)) _ a.1 in
     let c = and_true (not (same (codes "plaintext") name)) _ b.1 in
-    not_both (is_void name) (is_text name) c.1 v
+    not_both (is_void name) (is_text_only name) c.1 v
 
 -- the state after a start tag, and that the stack stays one
-opens : (inside : List (List ℕ)) (name : List ℕ) → is_element name ≡ true → IsTrue (takes_tags inside) → IsStack inside → (after_start name ≡ state_in (cond (is_void name) inside (name ∷ inside))) × IsStack (cond (is_void name) inside (name ∷ inside))
+opens : (inside : List (List ℕ)) (name : List ℕ) → is_element name ≡ true → IsTrue (takes_tags inside) → IsStack inside → (state_after_start name ≡ state_in (cond (is_void name) inside (name ∷ inside))) × IsStack (cond (is_void name) inside (name ∷ inside))
 opens inside name h takes stack =
-    elim (is_void name) as (λ b. is_void name ≡ b → (after_start name ≡ state_in (cond b inside (name ∷ inside))) × IsStack (cond b inside (name ∷ inside))) [
+    elim (is_void name) as (λ b. is_void name ≡ b → (state_after_start name ≡ state_in (cond b inside (name ∷ inside))) × IsStack (cond b inside (name ∷ inside))) [
       | true ↦ λ v. (state_after name h ∙ ap (λ (b : Bool). cond b (Raw Rcdata name) Data) (void_isnt_text name h v) ∙ sym (in_data inside takes), stack)
       | false ↦ λ v. (state_after name h, (takes, stack))
     ] refl
@@ -77,16 +78,16 @@ or_cases true b h P f g = f refl
 or_cases false true h P f g = g refl
 or_cases false false h P f g = absurd cc
 
-text_end : (name rest : List ℕ) → is_text name ≡ true → read (Raw Rcdata name) 0 (spell_token (End name) ++ rest) ≡ End name ∷ read Data 0 rest
-unfolding is_text text_elements
+text_end : (name rest : List ℕ) → is_text_only name ≡ true → read (Raw Rcdata name) 0 (spell_token (End name) ++ rest) ≡ End name ∷ read Data 0 rest
+unfolding is_text_only text_only_elements
 text_end name rest h =
     or_cases (same (codes "title") name) (same (codes "textarea") name) h _
     (λ e. subst (λ (n : List ℕ). read (Raw Rcdata n) 0 (spell_token (End n) ++ rest) ≡ End n ∷ read Data 0 rest) (same-true (codes "title") name e) (title_end rest))
     (λ e. subst (λ (n : List ℕ). read (Raw Rcdata n) 0 (spell_token (End n) ++ rest) ≡ End n ∷ read Data 0 rest) (same-true (codes "textarea") name e) (textarea_end rest))
 
-any_end : (name rest : List ℕ) → is_element name ≡ true → read (cond (is_text name) (Raw Rcdata name) Data) 0 (spell_token (End name) ++ rest) ≡ End name ∷ read Data 0 rest
+any_end : (name rest : List ℕ) → is_element name ≡ true → read (cond (is_text_only name) (Raw Rcdata name) Data) 0 (spell_token (End name) ++ rest) ≡ End name ∷ read Data 0 rest
 any_end name rest h =
-    elim (is_text name) as (λ b. is_text name ≡ b → read (cond b (Raw Rcdata name) Data) 0 (spell_token (End name) ++ rest) ≡ End name ∷ read Data 0 rest) [
+    elim (is_text_only name) as (λ b. is_text_only name ≡ b → read (cond b (Raw Rcdata name) Data) 0 (spell_token (End name) ++ rest) ≡ End name ∷ read Data 0 rest) [
       | true ↦ λ e. text_end name rest e
       | false ↦ λ e. end_reads name rest (element_name name h)
     ] refl
@@ -94,14 +95,14 @@ any_end name rest h =
 any_char : (inside : List (List ℕ)) (c : ℕ) (rest : List ℕ) → eqb c 0 ≡ false → read (state_in inside) 0 (spell_char c ++ rest) ≡ Char c ∷ read (state_in inside) 0 rest
 any_char [] c rest h = data_char c rest h
 any_char (name ∷ names) c rest h =
-    elim (is_text name) as (λ b. read (cond b (Raw Rcdata name) Data) 0 (spell_char c ++ rest) ≡ Char c ∷ read (cond b (Raw Rcdata name) Data) 0 rest) [
+    elim (is_text_only name) as (λ b. read (cond b (Raw Rcdata name) Data) 0 (spell_char c ++ rest) ≡ Char c ∷ read (cond b (Raw Rcdata name) Data) 0 rest) [
       | true ↦ text_char name c rest h
       | false ↦ data_char c rest h
     ]
 
 -- what was written is read
-pub reads_as : (inside : List (List ℕ)) (ts : List Token) (after : List (List ℕ)) → IsStack inside → Leads inside ts after → read (state_in inside) 0 (spell ts) ≡ ts
-unfolding spell Leads
+pub reads_as : (inside : List (List ℕ)) (ts : List Token) (after : List (List ℕ)) → IsStack inside → MayAppendAll inside ts after → read (state_in inside) 0 (spell ts) ≡ ts
+unfolding spell MayAppendAll
 reads_as inside [] after stack h = nothing_at_end inside
 reads_as inside (Start name attributes ∷ ts) after stack h =
     let may = h.0.0 in
@@ -113,7 +114,7 @@ reads_as inside (Start name attributes ∷ ts) after stack h =
 reads_as [] (End name ∷ ts) after stack h = absurd cc
 reads_as (inner ∷ names) (End name ∷ ts) after stack h =
     let e : inner ≡ name = same-true inner name h.0.1 in
-    ap (λ (n : List ℕ). read (cond (is_text n) (Raw Rcdata n) Data) 0 (spell (End name ∷ ts))) e
+    ap (λ (n : List ℕ). read (cond (is_text_only n) (Raw Rcdata n) Data) 0 (spell (End name ∷ ts))) e
     ∙ any_end name (spell ts) h.0.0
     ∙ ap (λ (s : State). End name ∷ read s 0 (spell ts)) (sym (in_data names stack.0))
     ∙ ap (λ (l : List Token). End name ∷ l) (reads_as names ts after stack.1 h.1)
@@ -156,7 +157,7 @@ name_page (c ∷ cs) h =
     let first : page_char c ≡ true = name_page_char c (grind (arith, nat_tests)) in
     rw (first, name_page_chars cs both.1) refl
 
-char_page : (c : ℕ) → IsShown c → page_chars (spell_char c) ≡ true
+char_page : (c : ℕ) → IsWritable c → page_chars (spell_char c) ≡ true
 char_page c h =
     elim (spelled c) [
       | is_lt e ↦ rw e refl
@@ -167,7 +168,7 @@ char_page c h =
       | itself lt gt amp quot cr ↦ rw (lt, gt, amp, quot, cr, not_nul c h, h.1, cr) refl
     ]
 
-chars_page : (cs : List ℕ) → AllByRecursion IsShown cs → page_chars (spell_chars cs) ≡ true
+chars_page : (cs : List ℕ) → AllByRecursion IsWritable cs → page_chars (spell_chars cs) ≡ true
 chars_page [] h = refl
 chars_page (c ∷ cs) h = all_append (spell_char c) (spell_chars cs) (char_page c h.0) (chars_page cs h.1)
 
@@ -178,7 +179,7 @@ attributes_page earlier (a ∷ more) h =
     (all_append (a.name ++ codes "=\"" ++ spell_chars a.value) (34 ∷ []) (all_append (a.name ++ codes "=\"") (spell_chars a.value) (all_append a.name (codes "=\"") (name_page a.name (attribute_name a.name h.0)) refl) (chars_page a.value h.2)) refl)
     (attributes_page (earlier ++ a ∷ []) more h.3)
 
-token_page : (inside : List (List ℕ)) (t : Token) → MayCome inside t → page_chars (spell_token t) ≡ true
+token_page : (inside : List (List ℕ)) (t : Token) → MayAppend inside t → page_chars (spell_token t) ≡ true
 token_page inside (Start name attributes) h =
     all_append (name ++ spell_attributes attributes) (62 ∷ []) (all_append name (spell_attributes attributes) (name_page name (element_name name h.0.0)) (attributes_page [] attributes (attributes_of [] attributes h.0.2 h.0.3 h.1))) refl
 token_page inside (End name) h = all_append name (62 ∷ []) (name_page name (element_name name h.0)) refl
@@ -186,13 +187,13 @@ token_page inside (Char c) h = char_page c h
 token_page inside (Comment text) h = refl
 token_page inside Doctype h = refl
 
-pub spell_page : (inside : List (List ℕ)) (ts : List Token) (after : List (List ℕ)) → Leads inside ts after → page_chars (spell ts) ≡ true
-unfolding spell Leads
+pub spell_page : (inside : List (List ℕ)) (ts : List Token) (after : List (List ℕ)) → MayAppendAll inside ts after → page_chars (spell ts) ≡ true
+unfolding spell MayAppendAll
 spell_page inside [] after h = refl
-spell_page inside (t ∷ ts) after h = all_append (spell_token t) (spell ts) (token_page inside t h.0) (spell_page (inside_after inside t) ts after h.1)
+spell_page inside (t ∷ ts) after h = all_append (spell_token t) (spell ts) (token_page inside t h.0) (spell_page (open_elements_after_token inside t) ts after h.1)
 
-no_newline : (cs : List ℕ) → page_chars cs ≡ true → newlines false cs ≡ cs
-unfolding newlines
+no_newline : (cs : List ℕ) → page_chars cs ≡ true → normalize_newlines false cs ≡ cs
+unfolding normalize_newlines
 no_newline [] h = refl
 no_newline (c ∷ cs) h =
     let both = and_true (page_char c) (page_chars cs) h in
@@ -208,11 +209,11 @@ all_scalars (c ∷ cs) h =
 
 -- ---- the law
 
-pub law : (ts : List Token) (after : List (List ℕ)) → Leads [] ts after → tokens (spell ts) ≡ ts
+pub law : (ts : List Token) (after : List (List ℕ)) → MayAppendAll [] ts after → tokens (spell ts) ≡ ts
 unfolding tokens
 law ts after h = ap (λ (text : List ℕ). read Data 0 text) (no_newline (spell ts) (spell_page [] ts after h)) ∙ reads_as [] ts after tt h
 
-pub law_of_bytes : (ts : List Token) (after : List (List ℕ)) → Leads [] ts after → tokens_of_bytes (encode_utf8_all (spell ts)) ≡ ts
+pub law_of_bytes : (ts : List Token) (after : List (List ℕ)) → MayAppendAll [] ts after → tokens_of_bytes (encode_utf8_all (spell ts)) ≡ ts
 unfolding tokens_of_bytes
 law_of_bytes ts after h =
     let fine = all_scalars (spell ts) (spell_page [] ts after h) in

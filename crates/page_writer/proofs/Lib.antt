@@ -1,4 +1,4 @@
-pub mod Facts
+pub mod Names
 pub mod Distinct
 pub mod Reading
 pub mod Law
@@ -7,7 +7,6 @@ pub mod Bytes
 pub mod Opening
 pub mod Adding
 pub mod Nesting
-pub mod Parts
-pub mod Mail
+pub mod Buffers
+pub mod Appending
 mod Examples
-mod TextPage

@@ -3,33 +3,34 @@ use Rattle.std.proofs.Common.{◌≡◌, ℕ, ◌<◌, Bool, true, false, cond, 
 use Rattle.std.proofs.lemmas.List.{reverse-append, map-append, length-reverse, length-map}
 use Rattle.std.proofs.lemmas.Str.{encodes-chars, encode_ascii}
 use lib.Utf8.{encodes}
-use Rattle.html_tokens.specs.Token.{Token, Attribute}
-use Rattle.html_tokens.specs.Token.Token.{Start, End, Char, Comment, Doctype}
-use Rattle.html_tokens.specs.Tokenizer.{tokens_of_bytes}
-use Rattle.html_tokens.specs.References.{is_between}
-use Rattle.page_writer.specs.Tables.{is_element, is_void}
-use Rattle.page_writer.specs.Page.{spell_token, MayCome, outer, inside_after, Leads}
-use Rattle.page_writer.specs.Writer.{Page, page_of, names_of, added, IsHeld, innermost}
-use Rattle.page_writer.proofs.Facts.{and_true, is_name, is_name_char, name_chars, name_char, element_name, letter_char, same-refl}
+use Rattle.html_syntax.specs.Token.{Token, Attribute}
+use Rattle.html_syntax.specs.Token.Token.{Start, End, Char, Comment, Doctype}
+use Rattle.html_syntax.specs.Tokenizer.{tokens_of_bytes}
+use Rattle.html_syntax.specs.References.{is_between}
+use Rattle.html_rules.specs.Tables.{is_element, is_void}
+use Rattle.page_writer.specs.Page.{spell_token, MayAppend, outer, open_elements_after_token, MayAppendAll}
+use Rattle.page_writer.specs.Writer.{Page, page_of, names_of, with_token, IsPagePrefix, innermost}
+use Rattle.html_rules.proofs.Facts.{and_true, same-refl}
+use Rattle.page_writer.proofs.Names.{is_name, is_name_char, name_chars, name_char, element_name, letter_char}
 use Rattle.page_writer.proofs.Held.{adds}
 
 pub record Moves (r : Bool) (new : List ℕ) (names : List (List ℕ)) (t : Token) (self : Page) : Type 0 where
-  pub held : IsHeld new names
-  pub page : r ≡ true → page_of new names ≡ added self t
+  pub held : IsPagePrefix new names
+  pub page : r ≡ true → page_of new names ≡ with_token self t
 
 pub moves : (r : Bool) (bytes new more : List ℕ) (opened names after : List (List ℕ)) (t : Token) (self : Page)
-    → page_of bytes opened ≡ self → new ≡ cond r (bytes ++ more) bytes → names ≡ cond r after opened → after ≡ inside_after opened t
-    → more ≡ encode_utf8_all (spell_token t) → IsHeld bytes opened → (r ≡ true → MayCome opened t) → Moves r new names t self
+    → page_of bytes opened ≡ self → new ≡ cond r (bytes ++ more) bytes → names ≡ cond r after opened → after ≡ open_elements_after_token opened t
+    → more ≡ encode_utf8_all (spell_token t) → IsPagePrefix bytes opened → (r ≡ true → MayAppend opened t) → Moves r new names t self
 moves true bytes new more opened names after t self is e n a m held may =
     let d = adds bytes opened t held (may refl) in
     let b : new ≡ bytes ++ encode_utf8_all (spell_token t) = e ∙ ap (λ (x : List ℕ). bytes ++ x) m in
-    let k : names ≡ inside_after opened t = n ∙ a in
+    let k : names ≡ open_elements_after_token opened t = n ∙ a in
     record {
-      held = subst (λ (x : List ℕ). IsHeld x names) (sym b) (subst (λ (x : List (List ℕ)). IsHeld (bytes ++ encode_utf8_all (spell_token t)) x) (sym k) d.held);
-      page = λ _. ap (λ (x : List ℕ). page_of x names) b ∙ ap (λ (l : List Token). record { written = l; opened = names }) d.tokens ∙ ap (λ (x : List (List ℕ)). record { written = tokens_of_bytes bytes ++ t ∷ []; opened = x }) k ∙ ap (λ (p : Page). added p t) is;
+      held = subst (λ (x : List ℕ). IsPagePrefix x names) (sym b) (subst (λ (x : List (List ℕ)). IsPagePrefix (bytes ++ encode_utf8_all (spell_token t)) x) (sym k) d.held);
+      page = λ _. ap (λ (x : List ℕ). page_of x names) b ∙ ap (λ (l : List Token). record { written = l; opened = names }) d.tokens ∙ ap (λ (x : List (List ℕ)). record { written = tokens_of_bytes bytes ++ t ∷ []; opened = x }) k ∙ ap (λ (p : Page). with_token p t) is;
     }
 moves false bytes new more opened names after t self is e n a m held may = record {
-  held = subst (λ (x : List ℕ). IsHeld x names) (sym e) (subst (λ (x : List (List ℕ)). IsHeld bytes x) (sym n) held);
+  held = subst (λ (x : List ℕ). IsPagePrefix x names) (sym e) (subst (λ (x : List (List ℕ)). IsPagePrefix bytes x) (sym n) held);
   page = λ h. absurd cc;
 }
 
@@ -60,12 +61,12 @@ names_if false items new s name e n = ap names_of e
 
 -- ---- the start of an element
 
-pub opens_nothing : (bs : List ℕ) (r : Bool) (opened : List (List ℕ)) (attributes : List Attribute) → r ≡ is_void bs → r ≡ true → chars bs ≡ bs → opened ≡ inside_after opened (Start (chars bs) attributes)
+pub opens_nothing : (bs : List ℕ) (r : Bool) (opened : List (List ℕ)) (attributes : List Attribute) → r ≡ is_void bs → r ≡ true → chars bs ≡ bs → opened ≡ open_elements_after_token opened (Start (chars bs) attributes)
 opens_nothing bs r opened attributes e h n =
     let v : is_void (chars bs) ≡ true = ap is_void n ∙ sym e ∙ h in
     rw v refl
 
-pub opens_it : (bs : List ℕ) (r : Bool) (opened : List (List ℕ)) (attributes : List Attribute) → r ≡ is_void bs → r ≡ false → chars bs ≡ bs → (chars bs ∷ opened) ≡ inside_after opened (Start (chars bs) attributes)
+pub opens_it : (bs : List ℕ) (r : Bool) (opened : List (List ℕ)) (attributes : List Attribute) → r ≡ is_void bs → r ≡ false → chars bs ≡ bs → (chars bs ∷ opened) ≡ open_elements_after_token opened (Start (chars bs) attributes)
 opens_it bs r opened attributes e h n =
     let v : is_void (chars bs) ≡ false = ap is_void n ∙ sym e ∙ h in
     rw v refl
@@ -84,23 +85,23 @@ outer_elements : (inside : List (List ℕ)) → AreElements inside → AreElemen
 outer_elements [] a = tt
 outer_elements (n ∷ names) a = a.1
 
-elements_stay : (inside : List (List ℕ)) (t : Token) → AreElements inside → MayCome inside t → AreElements (inside_after inside t)
+elements_stay : (inside : List (List ℕ)) (t : Token) → AreElements inside → MayAppend inside t → AreElements (open_elements_after_token inside t)
 elements_stay inside (Start name attributes) a may = cond_elements (is_void name) inside name a may.0.0
 elements_stay inside (End name) a may = outer_elements inside a
 elements_stay inside (Char c) a may = a
 elements_stay inside (Comment text) a may = a
 elements_stay inside Doctype a may = a
 
-elements_led : (inside : List (List ℕ)) (ts : List Token) (after : List (List ℕ)) → AreElements inside → Leads inside ts after → AreElements after
-unfolding Leads
+elements_led : (inside : List (List ℕ)) (ts : List Token) (after : List (List ℕ)) → AreElements inside → MayAppendAll inside ts after → AreElements after
+unfolding MayAppendAll
 elements_led inside [] after a h = subst AreElements h a
-elements_led inside (t ∷ ts) after a h = elements_led (inside_after inside t) ts after (elements_stay inside t a h.0) h.1
+elements_led inside (t ∷ ts) after a h = elements_led (open_elements_after_token inside t) ts after (elements_stay inside t a h.0) h.1
 
-end_may : (opened : List (List ℕ)) → AreElements opened → 0 < length opened → MayCome opened (End (innermost opened))
+end_may : (opened : List (List ℕ)) → AreElements opened → 0 < length opened → MayAppend opened (End (innermost opened))
 end_may [] a h = absurd (omega arith)
 end_may (n ∷ names) a h = (a.0, same-refl n)
 
-pub may_end : (bytes : List ℕ) (opened : List (List ℕ)) → IsHeld bytes opened → 0 < length opened → MayCome opened (End (innermost opened))
+pub may_end : (bytes : List ℕ) (opened : List (List ℕ)) → IsPagePrefix bytes opened → 0 < length opened → MayAppend opened (End (innermost opened))
 may_end bytes opened held h = end_may opened (elements_led [] (tokens_of_bytes bytes) opened tt held.led) h
 
 pub either : {X : Type 0} (r : Bool) (x : X) → x ≡ cond r x x

@@ -2,25 +2,26 @@
 use Rattle.std.proofs.Common.{◌≡◌, ℕ, true, false, eqb, List, [], ◌∷◌, ◌++◌, codes, refl, sym, ap, ◌∙◌, append_assoc}
 use Rattle.std.proofs.lemmas.List.{append-nil}
 use Rattle.std.specs.List.{AllByRecursion}
-use Rattle.html_tokens.specs.Token.{Attribute}
-use Rattle.html_tokens.specs.Token.Token.{Start, End, Char, Doctype}
-use Rattle.html_tokens.specs.References.{reference}
-use Rattle.html_tokens.specs.Tokenizer.{Tag, has_name, after_start, look, again, step, read, keep}
-use Rattle.html_tokens.specs.Tokenizer.Kind.{Rcdata}
-use Rattle.html_tokens.specs.Tokenizer.State.{Data, Raw, TagName, BeforeName, AttributeName, QuotedValue, AfterValue}
-use Rattle.page_writer.specs.Page.{spell_attributes, spell_token, spell_char, spell_chars, IsShown}
+use Rattle.html_syntax.specs.Token.{Attribute}
+use Rattle.html_syntax.specs.Token.Token.{Start, End, Char, Doctype}
+use Rattle.html_syntax.specs.References.{reference}
+use Rattle.html_syntax.specs.Tokenizer.{Tag, has_name, state_after_start, look, look_again, step, read, keep}
+use Rattle.html_syntax.specs.Tokenizer.RawTextKind.{Rcdata}
+use Rattle.html_syntax.specs.Tokenizer.State.{Data, Raw, TagName, BeforeName, AttributeName, QuotedValue, AfterValue}
+use Rattle.page_writer.specs.Page.{spell_attributes, spell_token, spell_char, spell_chars, IsWritable}
 use Rattle.page_writer.proofs.Distinct.{AreAttributes}
-use Rattle.html_tokens.specs.References.{is_between}
-use Rattle.page_writer.proofs.Facts.{attribute_name, Letter, letter_char, is_name, NameChar, name_char, is_name_char, name_chars, and_true, no_of, spelled}
-use Rattle.page_writer.proofs.Facts.Spelled.{is_lt, is_gt, is_amp, is_quot, is_cr, itself}
+use Rattle.html_syntax.specs.References.{is_between}
+use Rattle.html_rules.proofs.Facts.{and_true, no_of}
+use Rattle.page_writer.proofs.Names.{attribute_name, Letter, letter_char, is_name, NameChar, name_char, is_name_char, name_chars, spelled}
+use Rattle.page_writer.proofs.Names.Spelled.{is_lt, is_gt, is_amp, is_quot, is_cr, itself}
 
 -- ---- characters
 
-pub not_nul : (c : ℕ) → IsShown c → eqb c 0 ≡ false
+pub not_nul : (c : ℕ) → IsWritable c → eqb c 0 ≡ false
 not_nul c h = no_of (eqb c 0) h.0
 
 pub data_char : (c : ℕ) (rest : List ℕ) → eqb c 0 ≡ false → read Data 0 (spell_char c ++ rest) ≡ Char c ∷ read Data 0 rest
-unfolding read step again look reference
+unfolding read step look_again look reference
 data_char c rest h =
     elim (spelled c) [
       | is_lt e ↦ rw e refl
@@ -32,7 +33,7 @@ data_char c rest h =
     ]
 
 pub text_char : (last : List ℕ) (c : ℕ) (rest : List ℕ) → eqb c 0 ≡ false → read (Raw Rcdata last) 0 (spell_char c ++ rest) ≡ Char c ∷ read (Raw Rcdata last) 0 rest
-unfolding read step again look reference
+unfolding read step look_again look reference
 text_char last c rest h =
     elim (spelled c) [
       | is_lt e ↦ rw e refl
@@ -44,7 +45,7 @@ text_char last c rest h =
     ]
 
 value_char : (tag : Tag) (name value : List ℕ) (c : ℕ) (rest : List ℕ) → eqb c 0 ≡ false → read (QuotedValue 34 tag name value) 0 (spell_char c ++ rest) ≡ read (QuotedValue 34 tag name (value ++ c ∷ [])) 0 rest
-unfolding read step again look reference
+unfolding read step look_again look reference
 value_char tag name value c rest h =
     elim (spelled c) [
       | is_lt e ↦ rw e refl
@@ -55,7 +56,7 @@ value_char tag name value c rest h =
       | itself lt gt amp quot cr ↦ rw (lt, gt, amp, quot, cr, h, quot, amp, h) refl
     ]
 
-value_chars : (tag : Tag) (name value cs rest : List ℕ) → AllByRecursion IsShown cs → read (QuotedValue 34 tag name value) 0 (spell_chars cs ++ rest) ≡ read (QuotedValue 34 tag name (value ++ cs)) 0 rest
+value_chars : (tag : Tag) (name value cs rest : List ℕ) → AllByRecursion IsWritable cs → read (QuotedValue 34 tag name value) 0 (spell_chars cs ++ rest) ≡ read (QuotedValue 34 tag name (value ++ cs)) 0 rest
 value_chars tag name value [] rest h = rw append-nil refl
 value_chars tag name value (c ∷ cs) rest h =
     rw (append_assoc (spell_char c) (spell_chars cs) rest)
@@ -69,7 +70,7 @@ abbrev named : Tag → List ℕ → Tag
 named tag cs = record { is_end = tag.is_end; name = tag.name ++ cs; attributes = tag.attributes }
 
 tag_char : (tag : Tag) (c : ℕ) (rest : List ℕ) → NameChar c → read (TagName tag) 0 (c ∷ rest) ≡ read (TagName (named tag (c ∷ []))) 0 rest
-unfolding read step again look
+unfolding read step look_again look
 tag_char tag c rest h = rw (h.space, h.slash, h.gt, h.nul, h.lowered) refl
 
 tag_chars : (tag : Tag) (cs rest : List ℕ) → name_chars cs ≡ true → read (TagName tag) 0 (cs ++ rest) ≡ read (TagName (named tag cs)) 0 rest
@@ -81,7 +82,7 @@ tag_chars tag (c ∷ cs) rest h =
     ∙ ap (λ (n : List ℕ). read (TagName (record { is_end = tag.is_end; name = n; attributes = tag.attributes })) 0 rest) (append_assoc tag.name (c ∷ []) cs)
 
 attribute_char : (tag : Tag) (name : List ℕ) (c : ℕ) (rest : List ℕ) → NameChar c → read (AttributeName tag name) 0 (c ∷ rest) ≡ read (AttributeName tag (name ++ c ∷ [])) 0 rest
-unfolding read step again look
+unfolding read step look_again look
 attribute_char tag name c rest h = rw (h.space, h.slash, h.gt, h.equals, h.nul, h.lowered) refl
 
 attribute_chars : (tag : Tag) (name cs rest : List ℕ) → name_chars cs ≡ true → read (AttributeName tag name) 0 (cs ++ rest) ≡ read (AttributeName tag (name ++ cs)) 0 rest
@@ -96,34 +97,34 @@ attribute_chars tag name (c ∷ cs) rest h =
 
 -- the name of the first attribute begins after a space
 first_char : (tag : Tag) (c : ℕ) (rest : List ℕ) → NameChar c → read (BeforeName tag) 0 (c ∷ rest) ≡ read (AttributeName tag (c ∷ [])) 0 rest
-unfolding read step again look
+unfolding read step look_again look
 first_char tag c rest h = rw (h.space, h.slash, h.gt, h.equals, h.space, h.slash, h.gt, h.equals, h.nul, h.lowered) refl
 
 abbrev start_tag : List ℕ → List Attribute → Tag
 start_tag name attributes = record { is_end = false; name = name; attributes = attributes }
 
 space_after_name : (tag : Tag) (rest : List ℕ) → read (TagName tag) 0 (32 ∷ rest) ≡ read (BeforeName tag) 0 rest
-unfolding read step again look
+unfolding read step look_again look
 space_after_name tag rest = refl
 
 space_after_value : (tag : Tag) (rest : List ℕ) → read (AfterValue tag) 0 (32 ∷ rest) ≡ read (BeforeName tag) 0 rest
-unfolding read step again look
+unfolding read step look_again look
 space_after_value tag rest = refl
 
 value_begins : (tag : Tag) (name rest : List ℕ) → read (AttributeName tag name) 0 (61 ∷ 34 ∷ rest) ≡ read (QuotedValue 34 tag name []) 0 rest
-unfolding read step again look
+unfolding read step look_again look
 value_begins tag name rest = refl
 
 value_ends : (tag : Tag) (name value rest : List ℕ) → read (QuotedValue 34 tag name value) 0 (34 ∷ rest) ≡ read (AfterValue (keep tag name value)) 0 rest
-unfolding read step again look
+unfolding read step look_again look
 value_ends tag name value rest = refl
 
-gt_after_name : (name : List ℕ) (attributes : List Attribute) (rest : List ℕ) → read (TagName (start_tag name attributes)) 0 (62 ∷ rest) ≡ Start name attributes ∷ read (after_start name) 0 rest
-unfolding read step again look
+gt_after_name : (name : List ℕ) (attributes : List Attribute) (rest : List ℕ) → read (TagName (start_tag name attributes)) 0 (62 ∷ rest) ≡ Start name attributes ∷ read (state_after_start name) 0 rest
+unfolding read step look_again look
 gt_after_name name attributes rest = refl
 
-gt_after_value : (name : List ℕ) (attributes : List Attribute) (rest : List ℕ) → read (AfterValue (start_tag name attributes)) 0 (62 ∷ rest) ≡ Start name attributes ∷ read (after_start name) 0 rest
-unfolding read step again look
+gt_after_value : (name : List ℕ) (attributes : List Attribute) (rest : List ℕ) → read (AfterValue (start_tag name attributes)) 0 (62 ∷ rest) ≡ Start name attributes ∷ read (state_after_start name) 0 rest
+unfolding read step look_again look
 gt_after_value name attributes rest = refl
 
 attribute_name_reads : (tag : Tag) (name rest : List ℕ) → is_name name ≡ true → read (BeforeName tag) 0 (name ++ rest) ≡ read (AttributeName tag name) 0 rest
@@ -132,7 +133,7 @@ attribute_name_reads tag (c ∷ cs) rest h =
     let both = and_true (is_between 97 122 c) (name_chars cs) h in
     first_char tag c (cs ++ rest) (letter_char c both.0).in_name ∙ attribute_chars tag (c ∷ []) cs rest both.1
 
-attribute_reads : (tag : Tag) (a : Attribute) (rest : List ℕ) → is_name a.name ≡ true → AllByRecursion IsShown a.value
+attribute_reads : (tag : Tag) (a : Attribute) (rest : List ℕ) → is_name a.name ≡ true → AllByRecursion IsWritable a.value
     → read (BeforeName tag) 0 (a.name ++ (61 ∷ 34 ∷ (spell_chars a.value ++ 34 ∷ rest))) ≡ read (AfterValue (keep tag a.name a.value)) 0 rest
 attribute_reads tag a rest is_named is_shown =
     attribute_name_reads tag a.name (61 ∷ 34 ∷ (spell_chars a.value ++ 34 ∷ rest)) is_named
@@ -148,19 +149,19 @@ kept : (name : List ℕ) (earlier : List Attribute) (a : Attribute) → has_name
 kept name earlier a h = rw h refl
 
 attributes_read : (name : List ℕ) (earlier more : List Attribute) (rest : List ℕ) → AreAttributes earlier more
-    → read (AfterValue (start_tag name earlier)) 0 (spell_attributes more ++ 62 ∷ rest) ≡ Start name (earlier ++ more) ∷ read (after_start name) 0 rest
-attributes_read name earlier [] rest h = gt_after_value name earlier rest ∙ ap (λ (l : List Attribute). Start name l ∷ read (after_start name) 0 rest) (sym (append-nil earlier))
+    → read (AfterValue (start_tag name earlier)) 0 (spell_attributes more ++ 62 ∷ rest) ≡ Start name (earlier ++ more) ∷ read (state_after_start name) 0 rest
+attributes_read name earlier [] rest h = gt_after_value name earlier rest ∙ ap (λ (l : List Attribute). Start name l ∷ read (state_after_start name) 0 rest) (sym (append-nil earlier))
 attributes_read name earlier (a ∷ more) rest h =
     rw (regroup a more (62 ∷ rest))
     (space_after_value (start_tag name earlier) _
     ∙ attribute_reads (start_tag name earlier) a (spell_attributes more ++ 62 ∷ rest) (attribute_name a.name h.0) h.2
     ∙ ap (λ (t : Tag). read (AfterValue t) 0 (spell_attributes more ++ 62 ∷ rest)) (kept name earlier a (no_of (has_name a.name earlier) h.1))
     ∙ attributes_read name (earlier ++ a ∷ []) more rest h.3
-    ∙ ap (λ (l : List Attribute). Start name l ∷ read (after_start name) 0 rest) (append_assoc earlier (a ∷ []) more))
+    ∙ ap (λ (l : List Attribute). Start name l ∷ read (state_after_start name) 0 rest) (append_assoc earlier (a ∷ []) more))
 
 -- the first attribute, or none
 tag_reads : (name : List ℕ) (attributes : List Attribute) (rest : List ℕ) → AreAttributes [] attributes
-    → read (TagName (start_tag name [])) 0 (spell_attributes attributes ++ 62 ∷ rest) ≡ Start name attributes ∷ read (after_start name) 0 rest
+    → read (TagName (start_tag name [])) 0 (spell_attributes attributes ++ 62 ∷ rest) ≡ Start name attributes ∷ read (state_after_start name) 0 rest
 tag_reads name [] rest h = gt_after_name name [] rest
 tag_reads name (a ∷ more) rest h =
     rw (regroup a more (62 ∷ rest))
@@ -169,11 +170,11 @@ tag_reads name (a ∷ more) rest h =
     ∙ attributes_read name (a ∷ []) more rest h.3)
 
 tag_begins : (c : ℕ) (rest : List ℕ) → Letter c → read Data 0 (60 ∷ c ∷ rest) ≡ read (TagName (start_tag (c ∷ []) [])) 0 rest
-unfolding read step again look
+unfolding read step look_again look
 tag_begins c rest l = let h = l.in_name in rw (l.bang, h.slash, l.letter, h.space, h.slash, h.gt, h.nul, h.lowered) refl
 
 pub start_reads : (name : List ℕ) (attributes : List Attribute) (rest : List ℕ) → is_name name ≡ true → AreAttributes [] attributes
-    → read Data 0 (spell_token (Start name attributes) ++ rest) ≡ Start name attributes ∷ read (after_start name) 0 rest
+    → read Data 0 (spell_token (Start name attributes) ++ rest) ≡ Start name attributes ∷ read (state_after_start name) 0 rest
 start_reads [] attributes rest n h = absurd cc
 start_reads (c ∷ cs) attributes rest n h =
     let both = and_true (is_between 97 122 c) (name_chars cs) n in
@@ -186,11 +187,11 @@ start_reads (c ∷ cs) attributes rest n h =
 -- ---- end tags
 
 end_tag_begins : (c : ℕ) (rest : List ℕ) → Letter c → read Data 0 (60 ∷ 47 ∷ c ∷ rest) ≡ read (TagName (record { is_end = true; name = c ∷ []; attributes = [] })) 0 rest
-unfolding read step again look
+unfolding read step look_again look
 end_tag_begins c rest l = let h = l.in_name in rw (l.letter, h.space, h.slash, h.gt, h.nul, h.lowered) refl
 
 end_tag_ends : (name rest : List ℕ) → read (TagName (record { is_end = true; name = name; attributes = [] })) 0 (62 ∷ rest) ≡ End name ∷ read Data 0 rest
-unfolding read step again look
+unfolding read step look_again look
 end_tag_ends name rest = refl
 
 pub end_reads : (name rest : List ℕ) → is_name name ≡ true → read Data 0 (spell_token (End name) ++ rest) ≡ End name ∷ read Data 0 rest
@@ -205,15 +206,15 @@ end_reads (c ∷ cs) rest n =
 
 -- the ends of the elements whose content is text alone
 pub title_end : (rest : List ℕ) → read (Raw Rcdata (codes "title")) 0 (spell_token (End (codes "title")) ++ rest) ≡ End (codes "title") ∷ read Data 0 rest
-unfolding read step again look
+unfolding read step look_again look
 title_end rest = refl
 
 pub textarea_end : (rest : List ℕ) → read (Raw Rcdata (codes "textarea")) 0 (spell_token (End (codes "textarea")) ++ rest) ≡ End (codes "textarea") ∷ read Data 0 rest
-unfolding read step again look
+unfolding read step look_again look
 textarea_end rest = refl
 
 -- ---- the document type
 
 pub doctype_reads : (rest : List ℕ) → read Data 0 (spell_token Doctype ++ rest) ≡ Doctype ∷ read Data 0 rest
-unfolding read step again look
+unfolding read step look_again look
 doctype_reads rest = refl

@@ -2,8 +2,8 @@
 use Rattle.std.specs.Prelude.{◌≡◌, ℕ, ◌==◌, if◌then◌else◌, List, [], ◌∷◌, ◌++◌, codes, encode_utf8_all, IsTrue}
 use Rattle.std.specs.List.{flat_map, list_all}
 use Rattle.std.proofs.Math.Utf8.{scalars}
-use Rattle.html_tokens.specs.Characters.{null}
-use Rattle.html_tokens.specs.Token.{Attribute}
+use Rattle.html_syntax.specs.Characters.{null}
+use Rattle.html_syntax.specs.Token.{Attribute}
 use Rattle.page_writer.specs.Page.{spell_char, spell_chars}
 
 -- what is written for a byte of a text in UTF-8; U+FFFD is the bytes EF BF BD

@@ -1,10 +1,5 @@
-pub mod Tables
-pub mod Values
 pub mod Page
-pub mod Writer
 pub mod Bytes
-pub mod Nested
-pub mod Message
-pub mod Frame
-pub mod Allowed
+pub mod Writer
 pub mod Writing
+pub mod Written

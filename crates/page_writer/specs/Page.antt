@@ -2,11 +2,11 @@
 use Rattle.std.specs.Prelude.{◌≡◌, ℕ, Bool, true, false, not, ◌&&◌, ◌==◌, if◌then◌else◌, List, [], ◌∷◌, ◌++◌, codes, encode_utf8_all, IsTrue}
 use Rattle.std.specs.List.{AllByRecursion, list_all}
 use Rattle.std.specs.Char.{IsScalar}
-use Rattle.html_tokens.specs.Characters.{null, carriage_return, space, quotation_mark, ampersand, solidus, less_than, greater_than, replacement}
-use Rattle.html_tokens.specs.Token.{Attribute, Token}
-use Rattle.html_tokens.specs.Token.Token.{Start, End, Char, Comment, Doctype}
-use Rattle.html_tokens.specs.Tokenizer.{has_name, same, tokens_of_bytes}
-use Rattle.page_writer.specs.Tables.{Name, is_element, is_void, is_text, is_attribute_name}
+use Rattle.html_syntax.specs.Characters.{null, carriage_return, space, quotation_mark, ampersand, solidus, less_than, greater_than, replacement}
+use Rattle.html_syntax.specs.Token.{Attribute, Token}
+use Rattle.html_syntax.specs.Token.Token.{Start, End, Char, Comment, Doctype}
+use Rattle.html_syntax.specs.Tokenizer.{has_name, same, tokens_of_bytes}
+use Rattle.html_rules.specs.Tables.{Name, is_element, is_void, is_text_only, is_attribute_name}
 
 -- ---- spelling (HTML Standard, 13.1 and 13.3)
 
@@ -47,8 +47,8 @@ spell (t ∷ ts) = spell_token t ++ spell ts
 -- ---- what may come next
 
 -- a character other than U+0000
-abbrev pub IsShown : ℕ → Type 0
-IsShown c = IsTrue (not (c == null)) × IsScalar c
+abbrev pub IsWritable : ℕ → Type 0
+IsWritable c = IsTrue (not (c == null)) × IsScalar c
 
 -- the attributes have names of the lists
 abbrev pub are_attributes : List Attribute → Bool
@@ -62,7 +62,7 @@ are_distinct (a ∷ rest) = not (has_name a.name rest) && are_distinct rest
 -- the innermost open element, if one is open, isn't one of text alone
 abbrev pub takes_tags : List Name → Bool
 takes_tags [] = true
-takes_tags (name ∷ outer) = not (is_text name)
+takes_tags (name ∷ outer) = not (is_text_only name)
 
 abbrev pub innermost_is : Name → List Name → Bool
 innermost_is name [] = false
@@ -74,12 +74,12 @@ MayStart inside name attributes =
     IsTrue (is_element name) × IsTrue (takes_tags inside) × IsTrue (are_attributes attributes) × IsTrue (are_distinct attributes)
 
 -- the token may come where these elements are open, the innermost first
-abbrev pub MayCome : List Name → Token → Type 0
-MayCome inside (Start name attributes) = MayStart inside name attributes × AllByRecursion (λ a. AllByRecursion IsShown a.value) attributes
-MayCome inside (End name) = IsTrue (is_element name) × IsTrue (innermost_is name inside)
-MayCome inside (Char c) = IsShown c
-MayCome inside (Comment text) = ⊥
-MayCome inside Doctype = IsTrue (takes_tags inside)
+abbrev pub MayAppend : List Name → Token → Type 0
+MayAppend inside (Start name attributes) = MayStart inside name attributes × AllByRecursion (λ a. AllByRecursion IsWritable a.value) attributes
+MayAppend inside (End name) = IsTrue (is_element name) × IsTrue (innermost_is name inside)
+MayAppend inside (Char c) = IsWritable c
+MayAppend inside (Comment text) = ⊥
+MayAppend inside Doctype = IsTrue (takes_tags inside)
 
 -- without the innermost
 abbrev pub outer : List Name → List Name
@@ -87,16 +87,16 @@ outer [] = []
 outer (name ∷ names) = names
 
 -- the elements that are open after the token
-abbrev pub inside_after : List Name → Token → List Name
-inside_after inside (Start name attributes) = if is_void name then inside else name ∷ inside
-inside_after inside (End name) = outer inside
-inside_after inside t = inside
+abbrev pub open_elements_after_token : List Name → Token → List Name
+open_elements_after_token inside (Start name attributes) = if is_void name then inside else name ∷ inside
+open_elements_after_token inside (End name) = outer inside
+open_elements_after_token inside t = inside
 
 -- each of the tokens may come, where the first elements are open, and the last ones are open after them
-unfoldable pub Leads : List Name → List Token → List Name → Type 0
-Leads inside [] after = inside ≡ after
-Leads inside (t ∷ ts) after = MayCome inside t × Leads (inside_after inside t) ts after
+unfoldable pub MayAppendAll : List Name → List Token → List Name → Type 0
+MayAppendAll inside [] after = inside ≡ after
+MayAppendAll inside (t ∷ ts) after = MayAppend inside t × MayAppendAll (open_elements_after_token inside t) ts after
 
 -- a page of such tokens reads as these tokens
 abbrev pub PagesReadAsWritten : Type 0
-PagesReadAsWritten = (page : List Token) → Leads [] page [] → tokens_of_bytes (encode_utf8_all (spell page)) ≡ page
+PagesReadAsWritten = (page : List Token) → MayAppendAll [] page [] → tokens_of_bytes (encode_utf8_all (spell page)) ≡ page

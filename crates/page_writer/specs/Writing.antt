@@ -1,17 +1,6 @@
 -- Words for functions that write a page by many calls.
-use Rattle.std.specs.Prelude.{List, ℕ, [], ◌∷◌}
 use Rattle.std.specs.Str.{chars}
-use Rattle.html_tokens.specs.Token.{Token}
-use Rattle.html_tokens.specs.Token.Token.{Start}
-use Rattle.page_writer.specs.Tables.{Name, message_elements, frame_elements, message_voids, frame_voids, text_elements, is_element, is_void, is_text, common_attributes, attribute_rows, link_attributes, frame_attributes, is_attribute_name}
-
--- a start tag without attributes
-abbrev pub plain : Name → Token
-plain name = Start name []
-
--- a start tag with one attribute
-abbrev pub with : Name → Name → List ℕ → Token
-with name attribute value = Start name (record { name = attribute; value = value } ∷ [])
+use Rattle.html_rules.specs.Tables.{message_elements, frame_elements, message_void_elements, frame_void_elements, text_only_elements, is_element, is_void, is_text_only, common_attributes, attribute_rows, link_attributes, frame_attributes, is_attribute_name}
 
 -- A function that writes elements and attributes by names that stand in its code as texts has the line
 --     #[tactic(auto, unfolding(page_writer::specs::Writing::literals))]
@@ -21,5 +10,5 @@ with name attribute value = Start name (record { name = attribute; value = value
 --     unfolding literals
 --     returns c = c.finish.ensures.reads ∙ rw (c.in_ok-end-2.ensures.ok, .., c.in_ok-doctype.ensures.ok, c.new-out.ensures.written) (simp append_assoc)
 unfoldable pub literals : Unit {0}
-unfolding chars message_elements frame_elements message_voids frame_voids text_elements is_element is_void is_text common_attributes attribute_rows link_attributes frame_attributes is_attribute_name
+unfolding chars message_elements frame_elements message_void_elements frame_void_elements text_only_elements is_element is_void is_text_only common_attributes attribute_rows link_attributes frame_attributes is_attribute_name
 literals = tt

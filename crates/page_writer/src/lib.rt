@@ -5,22 +5,27 @@
 //! text and no attribute value, whoever chose it, can become a tag.
 #![tactic(auto)]
 
-pub mod laws;
+mod buffer;
+mod laws;
+mod sending;
 mod spelling;
-#[cfg(test)]
-mod tests;
 
-ghost use Rattle.std.specs.Prelude.{◌≡◌, ℕ, ◌<◌, List, [], ◌∷◌, length, chars, encode_utf8_all, OnOk, OnErr, IsTrue};
-ghost use Rattle.html_tokens.specs.Token.Token.{Start, End, Doctype};
-ghost use Rattle.html_tokens.specs.Tokenizer.{tokens_of_bytes};
+ghost use Rattle.std.specs.Prelude.{◌≡◌, ℕ, ◌<◌, List, [], ◌∷◌, ◌++◌, length, chars, encode_utf8_all, OnOk, OnErr, IsTrue, is_ok, if◌then◌else◌};
+ghost use Rattle.page_writer.specs.Page.{spell_token};
+ghost use Rattle.page_writer.specs.Writer.{names_of};
+ghost use Rattle.page_writer.specs.Bytes.{AreTexts};
+ghost use Rattle.html_syntax.specs.Token.Token.{Start, End, Doctype};
+ghost use Rattle.html_syntax.specs.Tokenizer.{tokens_of_bytes};
 ghost use Rattle.page_writer.specs.Page.{spell, takes_tags, MayStart};
-ghost use Rattle.page_writer.specs.Writer.{added, with_text, shown_values, innermost};
-ghost use Rattle.page_writer.specs.Nested.{Nested};
+ghost use Rattle.html_rules.specs.Tokens.{replace_nulls};
+ghost use Rattle.page_writer.specs.Writer.{with_token, with_text, innermost};
+ghost use Rattle.html_rules.specs.Nesting.{IsNested};
 
-use html_tokens::Attributes;
-pub use laws::{
-    allowed_pages_are_known, allowed_pages_have_one_mail, allowed_pages_load, pages_read_as_written,
-};
+pub use buffer::PageBytes;
+use html_rules::is_void;
+use html_syntax::Attributes;
+pub use laws::pages_read_as_written;
+pub use sending::{WRITE_ROOM, write_page};
 pub use std::alloc::AllocError as Memory;
 use std::alloc::Global;
 use std::marker::Model;
@@ -31,18 +36,18 @@ use std::marker::Model;
 /// it was where memory is refused.
 #[derive(Drop)]
 pub struct PageOut {
-    bytes: Vec<u8>,
+    bytes: PageBytes,
     inside: Vec<String>,
 }
 
 impl Model for PageOut {
-    ghost use Rattle.page_writer.specs.Writer.{Page, page_of, names_of, IsHeld};
+    ghost use Rattle.page_writer.specs.Writer.{Page, page_of, names_of, IsPagePrefix};
 
     ghost Value = { Page };
 
-    ghost view = { λ a. page_of a.bytes.items (names_of a.inside.items) };
+    ghost view = { λ a. page_of a.bytes (names_of a.inside.items) };
 
-    ghost invariant = { λ a. IsHeld a.bytes.items (names_of a.inside.items) };
+    ghost invariant = { λ a. IsPagePrefix a.bytes (names_of a.inside.items) };
 }
 
 impl PageOut {
@@ -52,7 +57,7 @@ impl PageOut {
         ensures opened { result.opened ≡ [] }
     {
         PageOut {
-            bytes: Vec::new(alloc),
+            bytes: PageBytes::new(alloc),
             inside: Vec::new(alloc),
         }
     }
@@ -60,10 +65,10 @@ impl PageOut {
     /// Writes `<!DOCTYPE html>`.
     pub fn doctype(&mut self) -> Result<(), Memory>
         requires { IsTrue (takes_tags self.old.opened) }
-        ensures ok { OnOk result (self.new ≡ added self.old Doctype) }
+        ensures ok { OnOk result (self.new ≡ with_token self.old Doctype) }
         ensures err { OnErr result (self.new ≡ self.old) }
     {
-        self.bytes.extend_from_slice(b"<!DOCTYPE html>")
+        self.bytes.add_markup(b"<!DOCTYPE html>")
     }
 
     /// Writes a text, in which every character stands for itself.
@@ -71,7 +76,7 @@ impl PageOut {
         ensures ok { OnOk result (self.new ≡ with_text self.old (chars text.now)) }
         ensures err { OnErr result (self.new ≡ self.old) }
     {
-        spelling::add_text(&mut self.bytes, text)
+        self.bytes.add_text(text)
     }
 
     /// Writes a start tag, and opens its element unless that is a void one (HTML Standard, 13.1.2).
@@ -85,55 +90,56 @@ impl PageOut {
         attributes: &Attributes,
     ) -> Result<(), Memory>
         requires { MayStart self.old.opened (chars name.now) attributes.now }
-        ensures ok { OnOk result (self.new ≡ added self.old (Start (chars name.now) (shown_values attributes.now))) }
+        ensures ok { OnOk result (self.new ≡ with_token self.old (Start (chars name.now) (replace_nulls attributes.now))) }
         ensures err { OnErr result (self.new ≡ self.old) }
     {
-        if spelling::is_void(name) {
-            spelling::add_start(&mut self.bytes, name, attributes)
+        if is_void(name) {
+            self.bytes.add_start(name, attributes)
         } else {
-            spelling::open_element(alloc, &mut self.bytes, &mut self.inside, name, attributes)
+            open_element(alloc, &mut self.bytes, &mut self.inside, name, attributes)
         }
     }
 
     /// Writes the end tag of the innermost open element, and closes it.
     pub fn end(&mut self) -> Result<(), Memory>
         requires { 0 < length self.old.opened }
-        ensures ok { OnOk result (self.new ≡ added self.old (End (innermost self.old.opened))) }
+        ensures ok { OnOk result (self.new ≡ with_token self.old (End (innermost self.old.opened))) }
         ensures err { OnErr result (self.new ≡ self.old) }
     {
         let last = self.inside.len() - 1;
-        spelling::add_end(&mut self.bytes, self.inside[last].as_str())?;
+        self.bytes.add_end(self.inside[last].as_str())?;
         let _ = self.inside.pop();
         Ok(())
     }
 
-    /// The bytes of the page, in UTF-8, once no element is open.
-    pub fn finish(self) -> Vec<u8>
+    /// The bytes of the page, in UTF-8. No element may be open.
+    pub fn finish(self) -> PageBytes
         requires { self.opened ≡ [] }
-        ensures spelled { result.items ≡ encode_utf8_all (spell self.written) }
-        ensures reads { tokens_of_bytes result.items ≡ self.written }
-        ensures nested { Nested self.written }
+        ensures spelled { result ≡ encode_utf8_all (spell self.written) }
+        ensures reads { tokens_of_bytes result ≡ self.written }
+        ensures nested { IsNested self.written }
     {
         let PageOut { bytes, inside } = self;
         bytes
     }
 }
 
-/// The kinds of value that the attributes of a message have. The tables of the definitions say which attribute has which.
-#[derive(Clone, Copy, Debug, PartialEq, Eq)]
-pub enum Kind {
-    /// An optional sign, 1 to 5 digits, an optional `%`.
-    Number,
-    /// 1 to 32 ASCII letters, digits, `-` and `#`.
-    Word,
-    /// Nothing: the attribute says it all by being there.
-    Flag,
-    /// Any text.
-    Text,
-    /// An address to which a click leads.
-    Link,
-    /// An address from which a picture is loaded.
-    Source,
-    /// Declarations of CSS.
-    Style,
+/// Writes a start tag and pushes the element's name.
+fn open_element(
+    alloc: Global,
+    out: &mut PageBytes,
+    inside: &mut Vec<String>,
+    name: &str,
+    attributes: &Attributes,
+) -> Result<(), Memory>
+    ensures items { out.new ≡ (if is_ok result then out.old ++ encode_utf8_all (spell_token (Start (chars name.now) attributes.now)) else out.old) }
+    ensures names { names_of inside.new.items ≡ (if is_ok result then chars name.now ∷ names_of inside.old.items else names_of inside.old.items) }
+    ensures texts { OnOk result (AreTexts attributes.now) }
+{
+    inside.push(String::from_str(alloc, name)?)?;
+    let written = out.add_start(name, attributes);
+    if written.is_err() {
+        let _ = inside.pop();
+    }
+    written
 }

@@ -3,15 +3,14 @@
 //! The functions `push_..` append to a buffer, and may leave a part behind where memory is refused; the functions `add_..` and
 //! `open_element` then take it back.
 
-ghost use Rattle.std.specs.Prelude.{◌≡◌, ℕ, ◌<◌, ◌≤◌, List, [], ◌∷◌, ◌++◌, length, take, chars, encode_utf8_all, string_bytes, OnOk, OnErr, is_ok, if◌then◌else◌, IsTrue};
+ghost use Rattle.std.specs.Prelude.{◌≡◌, ℕ, ◌<◌, ◌≤◌, List, [], ◌∷◌, ◌++◌, ◌+◌, ◌*◌, length, take, chars, encode_utf8_all, string_bytes, vec_len, vec_capacity, OnOk, OnErr, IsOk, is_ok, if◌then◌else◌, IsTrue};
 ghost use Rattle.page_writer.specs.Writer.{names_of};
-ghost use Rattle.html_tokens.specs.Token.Token.{Start, End};
+ghost use Rattle.html_syntax.specs.Token.Token.{Start, End};
 ghost use Rattle.page_writer.specs.Page.{spell_chars, spell_attributes, spell_token};
-ghost use Rattle.page_writer.specs.Tables.{is_void as is_void_name};
 ghost use Rattle.page_writer.specs.Bytes.{spell_byte, spell_bytes, attribute_bytes, Extends, AreTexts};
 
 use crate::Memory;
-use html_tokens::Attributes;
+use html_syntax::Attributes;
 use memchr::memchr3;
 use std::alloc::Global;
 
@@ -20,21 +19,6 @@ const CHUNK: usize = 64;
 
 /// A text makes room for itself and for so many bytes after it, so that a long one is copied once.
 const ROOM: usize = 4096;
-
-/// Whether an element of this name has no content and no end tag.
-#[tactic(auto, unfolding(crate::specs::Tables::is_void, crate::specs::Tables::message_voids, crate::specs::Tables::frame_voids))]
-pub fn is_void(name: &str) -> bool
-    ensures { result ≡ is_void_name name.now }
-{
-    name == "br"
-        || name == "col"
-        || name == "hr"
-        || name == "img"
-        || name == "wbr"
-        || name == "meta"
-        || name == "link"
-        || name == "input"
-}
 
 fn push(out: &mut Vec<u8>, bytes: &[u8]) -> Result<(), Memory>
     ensures ok { OnOk result (out.new.items ≡ out.old.items ++ bytes.now) }
@@ -46,6 +30,9 @@ fn push(out: &mut Vec<u8>, bytes: &[u8]) -> Result<(), Memory>
 fn push_byte(out: &mut Vec<u8>, byte: u8) -> Result<(), Memory>
     ensures ok { OnOk result (out.new.items ≡ out.old.items ++ spell_byte byte) }
     ensures err { OnErr result (out.new.items ≡ out.old.items) }
+    ensures at_most_six { vec_len out.new ≤ vec_len out.old + 6 }
+    ensures capacity { vec_capacity out.old ≤ vec_capacity out.new }
+    ensures fits { vec_len out.old + 6 ≤ vec_capacity out.old → IsOk result }
 {
     match byte {
         b'<' => out.extend_from_slice(b"&lt;"),
@@ -61,9 +48,12 @@ fn push_byte(out: &mut Vec<u8>, byte: u8) -> Result<(), Memory>
     }
 }
 
-fn push_each(out: &mut Vec<u8>, bytes: &[u8]) -> Result<(), Memory>
+/// Appends bytes as they are spelled. It takes no memory if there is room for six times their number.
+pub fn push_each(out: &mut Vec<u8>, bytes: &[u8]) -> Result<(), Memory>
     ensures ok { OnOk result (out.new.items ≡ out.old.items ++ spell_bytes bytes.now) }
     ensures extends { Extends out.old.items out.new.items }
+    ensures capacity { vec_capacity out.old ≤ vec_capacity out.new }
+    ensures fits { vec_len out.old + 6 * length bytes.now ≤ vec_capacity out.old → IsOk result }
 {
     for byte in bytes {
         push_byte(out, *byte)?;
@@ -71,8 +61,8 @@ fn push_each(out: &mut Vec<u8>, bytes: &[u8]) -> Result<(), Memory>
     Ok(())
 }
 
-/// Whether each of the bytes stands for itself.
-fn is_plain(bytes: &[u8]) -> bool
+/// Whether each of the bytes is spelled as itself.
+pub fn is_plain(bytes: &[u8]) -> bool
     ensures { IsTrue result → spell_bytes bytes.now ≡ bytes.now }
 {
     memchr3(b'<', b'>', b'&', bytes).is_none() && memchr3(b'"', b'\r', 0, bytes).is_none()
@@ -176,24 +166,4 @@ pub fn add_end(out: &mut Vec<u8>, name: &str) -> Result<(), Memory>
     let before = out.len();
     let written = push_end(out, name);
     settle(out, before, written)
-}
-
-/// Writes a start tag, and puts the element's name behind those of the open ones.
-pub fn open_element(
-    alloc: Global,
-    out: &mut Vec<u8>,
-    inside: &mut Vec<String>,
-    name: &str,
-    attributes: &Attributes,
-) -> Result<(), Memory>
-    ensures items { out.new.items ≡ (if is_ok result then out.old.items ++ encode_utf8_all (spell_token (Start (chars name.now) attributes.now)) else out.old.items) }
-    ensures names { names_of inside.new.items ≡ (if is_ok result then chars name.now ∷ names_of inside.old.items else names_of inside.old.items) }
-    ensures texts { OnOk result (AreTexts attributes.now) }
-{
-    inside.push(String::from_str(alloc, name)?)?;
-    let written = add_start(out, name, attributes);
-    if written.is_err() {
-        let _ = inside.pop();
-    }
-    written
 }

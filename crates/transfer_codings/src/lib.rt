@@ -13,6 +13,3 @@ pub use charset::{Charset, charset_of, text_of};
 pub use coding::{Coding, decode};
 pub use quoted_rows::encode_quoted;
 pub use std::alloc::AllocError as Memory;
-
-#[cfg(test)]
-mod tests;

@@ -1,24 +1,13 @@
 //! Hollpaten's one program.
 //!
 //! `webmail show` reads a message from standard input and writes its page to standard output. The runs are functions over
-//! sources and sinks, so that their contracts can say what was read and written; `main` makes the real ones.
+//! sources and sinks in `webmail_runs`, so that their contracts can say what was read and written; `main` makes the real ones.
 #![tactic(auto)]
 
-pub mod asking;
-pub mod elements;
-pub mod frame;
-pub mod mail;
-pub mod page;
-pub mod parts;
-pub mod show;
-pub mod status;
-pub mod text;
-
 use mail_io::{ReaderSource, WriterSink};
-use show::run_show;
-use status::{OUT_OF_MEMORY, Status, WRONG_WORDS, status_line};
 use std::env;
 use std::process::ExitCode;
+use webmail_runs::{OUT_OF_MEMORY, Status, WRONG_WORDS, run_show, status_line};
 
 fn main(rt: HostRuntime) -> ExitCode {
     let status = run(&rt);
@@ -40,6 +29,3 @@ fn run(rt: &HostRuntime) -> Status {
     let mut sink = WriterSink::new(rt.stdout());
     run_show(rt.alloc(), &words, &mut source, &mut sink)
 }
-
-#[cfg(test)]
-mod tests;

@@ -1,5 +1,5 @@
 use Rattle.std.proofs.Common.{map, drop, subst, sym}
-use Rattle.html_tokens.specs.Token.{attribute_of}
+use Rattle.html_syntax.specs.Token.{attribute_of}
 use Rattle.html_tokens.specs.Tags.{EndsTag, GivesTag}
 use Rattle.html_tokens.proofs.TagAttributes.{listed_last}
 use Rattle.html_tokens.proofs.attribute_list.attributes.Goals as goal

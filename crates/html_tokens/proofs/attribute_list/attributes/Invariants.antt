@@ -1,5 +1,5 @@
 use Rattle.std.proofs.Common.{◌-◌, length, map}
-use Rattle.html_tokens.specs.Token.{attribute_of}
+use Rattle.html_syntax.specs.Token.{attribute_of}
 use Rattle.html_tokens.specs.Tags.{ReadsUpTo}
 use Rattle.html_tokens.proofs.attribute_list.attributes.Given as goal
 

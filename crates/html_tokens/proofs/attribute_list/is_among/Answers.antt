@@ -1,7 +1,7 @@
 use Rattle.std.proofs.Common.{List, ℕ, sym, ap, ◌∙◌, chars}
-use Rattle.html_tokens.specs.States.{same}
-use Rattle.html_tokens.proofs.Texts.{same_text, same_sym}
-use Rattle.html_tokens.proofs.Pairs.{has_name-found, has_name-passed}
+use Rattle.html_syntax.specs.States.{same}
+use Rattle.html_syntax.proofs.Texts.{same_text, same_sym}
+use Rattle.html_syntax.proofs.Pairs.{has_name-found, has_name-passed}
 use Rattle.html_tokens.proofs.attribute_list.is_among.Goals as goal
 
 pub returns-then-eq : goal.returns-then-eq

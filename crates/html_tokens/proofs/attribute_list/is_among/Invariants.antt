@@ -1,6 +1,6 @@
 use Rattle.std.proofs.Common.{◌≡◌, map, drop, chars}
-use Rattle.html_tokens.specs.Token.{attribute_of}
-use Rattle.html_tokens.specs.States.{has_name}
+use Rattle.html_syntax.specs.Token.{attribute_of}
+use Rattle.html_syntax.specs.States.{has_name}
 use Rattle.html_tokens.proofs.attribute_list.is_among.Given as goal
 
 -- the names before this one are others

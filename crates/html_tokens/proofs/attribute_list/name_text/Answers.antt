@@ -1,6 +1,6 @@
 use Rattle.std.proofs.Common.{string_bytes, map, chars, ap, ◌∙◌}
 use Rattle.std.proofs.lemmas.Str.{IsUtf8-string_bytes}
-use Rattle.html_tokens.specs.Characters.{lower}
+use Rattle.html_syntax.specs.Characters.{lower}
 use Rattle.html_tokens.proofs.Lowering.{chars-lower}
 use Rattle.html_tokens.proofs.attribute_list.name_text.Goals as goal
 

@@ -1,6 +1,6 @@
 use Rattle.std.proofs.Common.{ℕ, List, subst}
 use Rattle.memchr.specs.Find.{IsFirstByte, is_byte}
-use Rattle.html_tokens.proofs.Searches.{lacks_before}
+use Rattle.html_references.proofs.Searches.{lacks_before}
 use Rattle.html_tokens.proofs.cuts.place_of.Goals as goal
 
 pub returns-clause-lacks : goal.returns-clause-lacks

@@ -2,7 +2,7 @@ use Rattle.std.proofs.Common.{◌≡◌, map, ◌∙◌}
 use Rattle.std.proofs.lemmas.Bool.Decides.{same_from_decides}
 use Rattle.std.proofs.lemmas.Slice.Eq.{bytes_eq-Decides}
 use Rattle.std.specs.Str.{bytes_eq}
-use Rattle.html_tokens.specs.Characters.{lower}
+use Rattle.html_syntax.specs.Characters.{lower}
 use Rattle.html_tokens.proofs.Words.{word_read}
 use Rattle.html_tokens.proofs.mode.is_word.Goals as goal
 

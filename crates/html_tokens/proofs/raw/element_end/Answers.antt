@@ -1,7 +1,7 @@
 use Rattle.std.proofs.Common.{◌≡◌, ℕ, List, ◌++◌, false, true, take, drop, IsCharBoundary, ap, sym, subst, ◌∙◌, arith}
-use Rattle.html_tokens.specs.Token.{Token}
-use Rattle.html_tokens.specs.Tokenizer.{chars}
-use Rattle.html_tokens.specs.Input.{input, read_as}
+use Rattle.html_syntax.specs.Token.{Token}
+use Rattle.html_syntax.specs.Tokenizer.{chars}
+use Rattle.html_references.specs.Input.{input, read_as}
 use Rattle.html_tokens.specs.Cuts.{Lacks, BeginsWith}
 use Rattle.html_tokens.specs.Contents.{text_in, closes}
 use Rattle.html_tokens.proofs.Runs.{emits}

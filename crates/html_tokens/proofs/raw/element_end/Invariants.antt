@@ -1,6 +1,6 @@
 use Rattle.std.proofs.Common.{◌-◌, length, []}
-use Rattle.html_tokens.specs.States.State.{Raw}
-use Rattle.html_tokens.specs.Input.{input, read_as}
+use Rattle.html_syntax.specs.States.State.{Raw}
+use Rattle.html_references.specs.Input.{input, read_as}
 use Rattle.html_tokens.specs.Scanned.{name_of, kind_of}
 use Rattle.html_tokens.specs.Contents.{text_in}
 use Rattle.html_tokens.proofs.Runs.{emits}

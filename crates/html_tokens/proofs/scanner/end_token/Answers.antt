@@ -1,8 +1,8 @@
 use Rattle.std.proofs.Common.{◌∷◌, [], ℕ, List, drop, true, ap, ◌∙◌, chars}
-use Rattle.html_tokens.specs.Token.Token.{End}
-use Rattle.html_tokens.specs.States.State.{Data}
-use Rattle.html_tokens.specs.Tokenizer.{read}
-use Rattle.html_tokens.specs.Input.{input}
+use Rattle.html_syntax.specs.Token.Token.{End}
+use Rattle.html_syntax.specs.States.State.{Data}
+use Rattle.html_syntax.specs.Tokenizer.{read}
+use Rattle.html_references.specs.Input.{input}
 use Rattle.html_tokens.proofs.OpeningRuns.{end_opens_at}
 use Rattle.html_tokens.proofs.TagTokens.{tag_in, first_token, some_token, after_name, name_read}
 use Rattle.html_tokens.proofs.scanner.end_token.Goals as goal

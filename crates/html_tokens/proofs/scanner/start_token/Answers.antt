@@ -1,5 +1,5 @@
 use Rattle.std.proofs.Common.{◌∷◌, [], List, ℕ, false, refl, ap, ◌∙◌, chars, drop}
-use Rattle.html_tokens.specs.Token.Token.{Start}
+use Rattle.html_syntax.specs.Token.Token.{Start}
 use Rattle.html_tokens.proofs.OpeningRuns.{start_opens_at}
 use Rattle.html_tokens.proofs.TagTokens.{tag_in, tag_token, after_name, name_read}
 use Rattle.html_tokens.proofs.scanner.start_token.Goals as goal

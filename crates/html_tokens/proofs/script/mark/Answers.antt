@@ -1,5 +1,5 @@
 use Rattle.std.proofs.Common.{◌≡◌, ℕ, Bool, List, [], ◌∷◌, false, true, ap, sym, subst, ◌∙◌, codes}
-use Rattle.html_tokens.specs.References.{begins}
+use Rattle.html_syntax.specs.References.{begins_with}
 use Rattle.html_tokens.specs.Contents.{named}
 use Rattle.html_tokens.specs.Scripts.{ends_script}
 use Rattle.html_tokens.specs.declared.script.Phase.{Phase}
@@ -12,23 +12,23 @@ said test text bytes result answer value is was = ap test (sym value) ∙ sym is
 
 pub returns-then-begins_by-clause-reads : goal.returns-then-begins_by-clause-reads
 returns-then-begins_by-clause-reads c =
-    rw c.in-Plain.is (escapes c.args.rest.now c.utf8.rest (said (begins (60 ∷ 33 ∷ 45 ∷ 45 ∷ [])) c.args.rest.now c.as_bytes-bytes.result.now c.begins_by.result true c.as_bytes-bytes.ensures.value c.begins_by.ensures c.if-begins_by.true)).reads
+    rw c.in-Plain.is (escapes c.args.rest.now c.utf8.rest (said (begins_with (60 ∷ 33 ∷ 45 ∷ 45 ∷ [])) c.args.rest.now c.as_bytes-bytes.result.now c.begins_by.result true c.as_bytes-bytes.ensures.value c.begins_by.ensures c.if-begins_by.true)).reads
 
 pub returns-else-begins_by-clause-boundary : goal.returns-else-begins_by-clause-boundary
 returns-else-begins_by-clause-boundary c =
-    (plain_one c.args.rest.now c.utf8.rest c.requires.some c.requires.begins (subst (λ (p : Phase). ends_script p c.args.rest.now ≡ false) c.in-Plain.is c.requires.goes_on) (said (begins (60 ∷ 33 ∷ 45 ∷ 45 ∷ [])) c.args.rest.now c.as_bytes-bytes.result.now c.begins_by.result false c.as_bytes-bytes.ensures.value c.begins_by.ensures c.if-begins_by.false)).boundary
+    (plain_one c.args.rest.now c.utf8.rest c.requires.some c.requires.begins (subst (λ (p : Phase). ends_script p c.args.rest.now ≡ false) c.in-Plain.is c.requires.goes_on) (said (begins_with (60 ∷ 33 ∷ 45 ∷ 45 ∷ [])) c.args.rest.now c.as_bytes-bytes.result.now c.begins_by.result false c.as_bytes-bytes.ensures.value c.begins_by.ensures c.if-begins_by.false)).boundary
 
 pub returns-else-begins_by-clause-reads : goal.returns-else-begins_by-clause-reads
 returns-else-begins_by-clause-reads c =
-    rw c.in-Plain.is (plain_one c.args.rest.now c.utf8.rest c.requires.some c.requires.begins (subst (λ (p : Phase). ends_script p c.args.rest.now ≡ false) c.in-Plain.is c.requires.goes_on) (said (begins (60 ∷ 33 ∷ 45 ∷ 45 ∷ [])) c.args.rest.now c.as_bytes-bytes.result.now c.begins_by.result false c.as_bytes-bytes.ensures.value c.begins_by.ensures c.if-begins_by.false)).reads
+    rw c.in-Plain.is (plain_one c.args.rest.now c.utf8.rest c.requires.some c.requires.begins (subst (λ (p : Phase). ends_script p c.args.rest.now ≡ false) c.in-Plain.is c.requires.goes_on) (said (begins_with (60 ∷ 33 ∷ 45 ∷ 45 ∷ [])) c.args.rest.now c.as_bytes-bytes.result.now c.begins_by.result false c.as_bytes-bytes.ensures.value c.begins_by.ensures c.if-begins_by.false)).reads
 
 pub returns-then-begins_by-2-clause-boundary : goal.returns-then-begins_by-2-clause-boundary
 returns-then-begins_by-2-clause-boundary c =
-    (closes_escape c.args.rest.now c.utf8.rest (said (begins (45 ∷ 45 ∷ 62 ∷ [])) c.args.rest.now c.as_bytes-bytes.result.now c.begins_by-in-Escaped.result true c.as_bytes-bytes.ensures.value c.begins_by-in-Escaped.ensures c.if-begins_by-2.true)).boundary
+    (closes_escape c.args.rest.now c.utf8.rest (said (begins_with (45 ∷ 45 ∷ 62 ∷ [])) c.args.rest.now c.as_bytes-bytes.result.now c.begins_by-in-Escaped.result true c.as_bytes-bytes.ensures.value c.begins_by-in-Escaped.ensures c.if-begins_by-2.true)).boundary
 
 pub returns-then-begins_by-2-clause-reads : goal.returns-then-begins_by-2-clause-reads
 returns-then-begins_by-2-clause-reads c =
-    rw c.in-Escaped.is (closes_escape c.args.rest.now c.utf8.rest (said (begins (45 ∷ 45 ∷ 62 ∷ [])) c.args.rest.now c.as_bytes-bytes.result.now c.begins_by-in-Escaped.result true c.as_bytes-bytes.ensures.value c.begins_by-in-Escaped.ensures c.if-begins_by-2.true)).reads
+    rw c.in-Escaped.is (closes_escape c.args.rest.now c.utf8.rest (said (begins_with (45 ∷ 45 ∷ 62 ∷ [])) c.args.rest.now c.as_bytes-bytes.result.now c.begins_by-in-Escaped.result true c.as_bytes-bytes.ensures.value c.begins_by-in-Escaped.ensures c.if-begins_by-2.true)).reads
 
 pub returns-then-begins_named-clause-reads : goal.returns-then-begins_named-clause-reads
 returns-then-begins_named-clause-reads c =
@@ -36,19 +36,19 @@ returns-then-begins_named-clause-reads c =
 
 pub returns-else-begins_named-clause-boundary : goal.returns-else-begins_named-clause-boundary
 returns-else-begins_named-clause-boundary c =
-    (escaped_one c.args.rest.now c.utf8.rest c.requires.some c.requires.begins (subst (λ (p : Phase). ends_script p c.args.rest.now ≡ false) c.in-Escaped.is c.requires.goes_on) (said (begins (45 ∷ 45 ∷ 62 ∷ [])) c.args.rest.now c.as_bytes-bytes.result.now c.begins_by-in-Escaped.result false c.as_bytes-bytes.ensures.value c.begins_by-in-Escaped.ensures c.if-begins_by-2.false) (said (named (60 ∷ codes "script")) c.args.rest.now c.as_bytes-bytes.result.now c.begins_named.result false c.as_bytes-bytes.ensures.value c.begins_named.ensures c.if-begins_named.false)).boundary
+    (escaped_one c.args.rest.now c.utf8.rest c.requires.some c.requires.begins (subst (λ (p : Phase). ends_script p c.args.rest.now ≡ false) c.in-Escaped.is c.requires.goes_on) (said (begins_with (45 ∷ 45 ∷ 62 ∷ [])) c.args.rest.now c.as_bytes-bytes.result.now c.begins_by-in-Escaped.result false c.as_bytes-bytes.ensures.value c.begins_by-in-Escaped.ensures c.if-begins_by-2.false) (said (named (60 ∷ codes "script")) c.args.rest.now c.as_bytes-bytes.result.now c.begins_named.result false c.as_bytes-bytes.ensures.value c.begins_named.ensures c.if-begins_named.false)).boundary
 
 pub returns-else-begins_named-clause-reads : goal.returns-else-begins_named-clause-reads
 returns-else-begins_named-clause-reads c =
-    rw c.in-Escaped.is (escaped_one c.args.rest.now c.utf8.rest c.requires.some c.requires.begins (subst (λ (p : Phase). ends_script p c.args.rest.now ≡ false) c.in-Escaped.is c.requires.goes_on) (said (begins (45 ∷ 45 ∷ 62 ∷ [])) c.args.rest.now c.as_bytes-bytes.result.now c.begins_by-in-Escaped.result false c.as_bytes-bytes.ensures.value c.begins_by-in-Escaped.ensures c.if-begins_by-2.false) (said (named (60 ∷ codes "script")) c.args.rest.now c.as_bytes-bytes.result.now c.begins_named.result false c.as_bytes-bytes.ensures.value c.begins_named.ensures c.if-begins_named.false)).reads
+    rw c.in-Escaped.is (escaped_one c.args.rest.now c.utf8.rest c.requires.some c.requires.begins (subst (λ (p : Phase). ends_script p c.args.rest.now ≡ false) c.in-Escaped.is c.requires.goes_on) (said (begins_with (45 ∷ 45 ∷ 62 ∷ [])) c.args.rest.now c.as_bytes-bytes.result.now c.begins_by-in-Escaped.result false c.as_bytes-bytes.ensures.value c.begins_by-in-Escaped.ensures c.if-begins_by-2.false) (said (named (60 ∷ codes "script")) c.args.rest.now c.as_bytes-bytes.result.now c.begins_named.result false c.as_bytes-bytes.ensures.value c.begins_named.ensures c.if-begins_named.false)).reads
 
 pub returns-then-begins_by-3-clause-boundary : goal.returns-then-begins_by-3-clause-boundary
 returns-then-begins_by-3-clause-boundary c =
-    (closes_double c.args.rest.now c.utf8.rest (said (begins (45 ∷ 45 ∷ 62 ∷ [])) c.args.rest.now c.as_bytes-bytes.result.now c.begins_by-in-DoubleEscaped.result true c.as_bytes-bytes.ensures.value c.begins_by-in-DoubleEscaped.ensures c.if-begins_by-3.true)).boundary
+    (closes_double c.args.rest.now c.utf8.rest (said (begins_with (45 ∷ 45 ∷ 62 ∷ [])) c.args.rest.now c.as_bytes-bytes.result.now c.begins_by-in-DoubleEscaped.result true c.as_bytes-bytes.ensures.value c.begins_by-in-DoubleEscaped.ensures c.if-begins_by-3.true)).boundary
 
 pub returns-then-begins_by-3-clause-reads : goal.returns-then-begins_by-3-clause-reads
 returns-then-begins_by-3-clause-reads c =
-    rw c.in-DoubleEscaped.is (closes_double c.args.rest.now c.utf8.rest (said (begins (45 ∷ 45 ∷ 62 ∷ [])) c.args.rest.now c.as_bytes-bytes.result.now c.begins_by-in-DoubleEscaped.result true c.as_bytes-bytes.ensures.value c.begins_by-in-DoubleEscaped.ensures c.if-begins_by-3.true)).reads
+    rw c.in-DoubleEscaped.is (closes_double c.args.rest.now c.utf8.rest (said (begins_with (45 ∷ 45 ∷ 62 ∷ [])) c.args.rest.now c.as_bytes-bytes.result.now c.begins_by-in-DoubleEscaped.result true c.as_bytes-bytes.ensures.value c.begins_by-in-DoubleEscaped.ensures c.if-begins_by-3.true)).reads
 
 pub returns-then-begins_named-2-clause-reads : goal.returns-then-begins_named-2-clause-reads
 returns-then-begins_named-2-clause-reads c =
@@ -56,8 +56,8 @@ returns-then-begins_named-2-clause-reads c =
 
 pub returns-else-begins_named-2-clause-boundary : goal.returns-else-begins_named-2-clause-boundary
 returns-else-begins_named-2-clause-boundary c =
-    (double_one c.args.rest.now c.utf8.rest c.requires.some c.requires.begins (said (begins (45 ∷ 45 ∷ 62 ∷ [])) c.args.rest.now c.as_bytes-bytes.result.now c.begins_by-in-DoubleEscaped.result false c.as_bytes-bytes.ensures.value c.begins_by-in-DoubleEscaped.ensures c.if-begins_by-3.false) (said (named (60 ∷ 47 ∷ codes "script")) c.args.rest.now c.as_bytes-bytes.result.now c.begins_named-else-begins_by-3.result false c.as_bytes-bytes.ensures.value c.begins_named-else-begins_by-3.ensures c.if-begins_named-2.false)).boundary
+    (double_one c.args.rest.now c.utf8.rest c.requires.some c.requires.begins (said (begins_with (45 ∷ 45 ∷ 62 ∷ [])) c.args.rest.now c.as_bytes-bytes.result.now c.begins_by-in-DoubleEscaped.result false c.as_bytes-bytes.ensures.value c.begins_by-in-DoubleEscaped.ensures c.if-begins_by-3.false) (said (named (60 ∷ 47 ∷ codes "script")) c.args.rest.now c.as_bytes-bytes.result.now c.begins_named-else-begins_by-3.result false c.as_bytes-bytes.ensures.value c.begins_named-else-begins_by-3.ensures c.if-begins_named-2.false)).boundary
 
 pub returns-else-begins_named-2-clause-reads : goal.returns-else-begins_named-2-clause-reads
 returns-else-begins_named-2-clause-reads c =
-    rw c.in-DoubleEscaped.is (double_one c.args.rest.now c.utf8.rest c.requires.some c.requires.begins (said (begins (45 ∷ 45 ∷ 62 ∷ [])) c.args.rest.now c.as_bytes-bytes.result.now c.begins_by-in-DoubleEscaped.result false c.as_bytes-bytes.ensures.value c.begins_by-in-DoubleEscaped.ensures c.if-begins_by-3.false) (said (named (60 ∷ 47 ∷ codes "script")) c.args.rest.now c.as_bytes-bytes.result.now c.begins_named-else-begins_by-3.result false c.as_bytes-bytes.ensures.value c.begins_named-else-begins_by-3.ensures c.if-begins_named-2.false)).reads
+    rw c.in-DoubleEscaped.is (double_one c.args.rest.now c.utf8.rest c.requires.some c.requires.begins (said (begins_with (45 ∷ 45 ∷ 62 ∷ [])) c.args.rest.now c.as_bytes-bytes.result.now c.begins_by-in-DoubleEscaped.result false c.as_bytes-bytes.ensures.value c.begins_by-in-DoubleEscaped.ensures c.if-begins_by-3.false) (said (named (60 ∷ 47 ∷ codes "script")) c.args.rest.now c.as_bytes-bytes.result.now c.begins_named-else-begins_by-3.result false c.as_bytes-bytes.ensures.value c.begins_named-else-begins_by-3.ensures c.if-begins_named-2.false)).reads

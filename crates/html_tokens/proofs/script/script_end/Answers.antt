@@ -1,10 +1,10 @@
 use Rattle.std.proofs.Common.{◌≡◌, ℕ, List, ◌++◌, true, drop, take, map, IsCharBoundary, ap, sym, subst, ◌∙◌, arith}
 use Rattle.std.proofs.lemmas.List.{drop-drop}
 use Rattle.std.proofs.lemmas.Str.{IsCharBoundary-from_rest}
-use Rattle.html_tokens.specs.Token.{Token}
-use Rattle.html_tokens.specs.States.{shown}
-use Rattle.html_tokens.specs.Tokenizer.{chars}
-use Rattle.html_tokens.specs.Input.{input}
+use Rattle.html_syntax.specs.Token.{Token}
+use Rattle.html_syntax.specs.States.{replace_null}
+use Rattle.html_syntax.specs.Tokenizer.{chars}
+use Rattle.html_references.specs.Input.{input}
 use Rattle.html_tokens.specs.Scripts.{Reads, IsMark, ends_script}
 use Rattle.html_tokens.specs.declared.script.Phase.TheVariants.{Plain}
 use Rattle.html_tokens.proofs.ScriptSteps.{marked_parts, script_closed, script_over}
@@ -25,11 +25,11 @@ loop-at-preserved c =
 
 pub returns-else-not-ends-clause-reads : goal.returns-else-not-ends-clause-reads
 returns-else-not-ends-clause-reads c =
-    let text = chars (map shown (input (take c.loop-at.at c.args.rest.now))) in
+    let text = chars (map replace_null (input (take c.loop-at.at c.args.rest.now))) in
     let ends : ends_script c.loop-at.phase (drop c.loop-at.at c.args.rest.now) ≡ true = ap (ends_script c.loop-at.phase) (sym c.range_from.ensures.value) ∙ sym c.ends.ensures ∙ c.if-not-ends.false in
     c.loop-at.invariant.2 ∙ ap (λ (l : List Token). text ++ l) (script_closed c.loop-at.phase (drop c.loop-at.at c.args.rest.now) ends).1
 
 pub returns-after-loop-at-clause-reads : goal.returns-after-loop-at-clause-reads
 returns-after-loop-at-clause-reads c =
-    let text = chars (map shown (input (take c.loop-at.at c.args.rest.now))) in
+    let text = chars (map replace_null (input (take c.loop-at.at c.args.rest.now))) in
     c.loop-at.invariant.2 ∙ ap (λ (l : List Token). text ++ l) (script_over c.loop-at.phase c.args.rest.now c.loop-at.at (omega (arith, c.loop-at-test.false)))

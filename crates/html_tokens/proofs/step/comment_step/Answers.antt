@@ -1,9 +1,9 @@
 use Rattle.std.proofs.Common.{◌≡◌, ◌∷◌, [], ℕ, List, take, drop, map, subst, ◌∙◌, IsCharBoundary, arith}
-use Rattle.html_tokens.specs.Token.Token.{Comment}
-use Rattle.html_tokens.specs.States.{shown}
-use Rattle.html_tokens.specs.States.State.{Data, CommentStart}
-use Rattle.html_tokens.specs.Tokenizer.{read}
-use Rattle.html_tokens.specs.Input.{input}
+use Rattle.html_syntax.specs.Token.Token.{Comment}
+use Rattle.html_syntax.specs.States.{replace_null}
+use Rattle.html_syntax.specs.States.State.{Data, CommentStart}
+use Rattle.html_syntax.specs.Tokenizer.{read}
+use Rattle.html_references.specs.Input.{input}
 use Rattle.html_tokens.proofs.StepRuns.{comment_found}
 use Rattle.html_tokens.proofs.step.comment_step.Goals as goal
 
@@ -14,4 +14,4 @@ returns c =
     let is = c.range_from.ensures.value in
     let e = c.comment-found.ensures in
     comment_found rest 4 found.len found.end c.utf8.rest c.requires.boundary (omega arith) (subst (λ (l : List ℕ). IsCharBoundary l found.len) is e.len) (subst (λ (l : List ℕ). IsCharBoundary l found.end) is e.end) e.ordered
-    (c.requires.reads ∙ subst (λ (l : List ℕ). read (CommentStart []) 0 (input l) ≡ Comment (map shown (input (take found.len l))) ∷ read Data 0 (input (drop found.end l))) is e.reads)
+    (c.requires.reads ∙ subst (λ (l : List ℕ). read (CommentStart []) 0 (input l) ≡ Comment (map replace_null (input (take found.len l))) ∷ read Data 0 (input (drop found.end l))) is e.reads)

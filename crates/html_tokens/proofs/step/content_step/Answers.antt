@@ -1,7 +1,7 @@
 use Rattle.std.proofs.Common.{◌≡◌, ◌++◌, ℕ, List, take, drop, subst, ◌∙◌, arith}
-use Rattle.html_tokens.specs.States.State.{Data, Raw}
-use Rattle.html_tokens.specs.Tokenizer.{read, chars}
-use Rattle.html_tokens.specs.Input.{input, read_as}
+use Rattle.html_syntax.specs.States.State.{Data, Raw}
+use Rattle.html_syntax.specs.Tokenizer.{read, chars}
+use Rattle.html_references.specs.Input.{input, read_as}
 use Rattle.html_tokens.specs.Scanned.{kind_of, name_of}
 use Rattle.html_tokens.specs.Contents.{text_in}
 use Rattle.html_tokens.specs.declared.mode.Mode.TheVariants as mode

@@ -1,8 +1,8 @@
 use Rattle.std.proofs.Common.{◌≡◌, ◌∷◌, ℕ, List, drop, subst, ◌∙◌, IsCharBoundary}
-use Rattle.html_tokens.specs.Token.Token.{Doctype}
-use Rattle.html_tokens.specs.States.State.{Data, DoctypeBody}
-use Rattle.html_tokens.specs.Tokenizer.{read}
-use Rattle.html_tokens.specs.Input.{input}
+use Rattle.html_syntax.specs.Token.Token.{Doctype}
+use Rattle.html_syntax.specs.States.State.{Data, DoctypeBody}
+use Rattle.html_syntax.specs.Tokenizer.{read}
+use Rattle.html_references.specs.Input.{input}
 use Rattle.html_tokens.proofs.StepRuns.{doctype_found}
 use Rattle.html_tokens.proofs.step.doctype_step.Goals as goal
 

@@ -1,8 +1,9 @@
 use Rattle.std.proofs.Common.{◌≡◌, ℕ, List, take, drop, true, refl, ap, subst, ◌∙◌, IsCharBoundary, arith}
-use Rattle.html_tokens.specs.States.{Tag, new_tag}
-use Rattle.html_tokens.specs.States.State.{TagName, BeforeName}
-use Rattle.html_tokens.specs.Tokenizer.{read}
-use Rattle.html_tokens.specs.Input.{input, named_by, with_attributes, ended}
+use Rattle.html_syntax.specs.States.{Tag, new_tag}
+use Rattle.html_syntax.specs.States.State.{TagName, BeforeName}
+use Rattle.html_syntax.specs.Tokenizer.{read}
+use Rattle.html_references.specs.Input.{input}
+use Rattle.html_tokens.specs.Tags.{named_by, with_attributes, ended}
 use Rattle.html_tokens.specs.declared.mode.Mode.TheVariants as mode
 use Rattle.html_tokens.specs.declared.span.Part.TheVariants as part
 use Rattle.html_tokens.proofs.StepRuns.{tag_found, end_read}

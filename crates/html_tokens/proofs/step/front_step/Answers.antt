@@ -4,7 +4,7 @@ use Rattle.html_tokens.specs.Scanned.{opens_markup}
 use Rattle.html_tokens.specs.Stepping.{StepsTo}
 use Rattle.html_tokens.specs.declared.step.Step.{Step}
 use Rattle.html_tokens.specs.declared.mode.Mode.TheVariants as mode
-use Rattle.html_tokens.specs.declared.stretch.ReadAs.TheVariants as reads
+use Rattle.html_references.specs.declared.stretch.ReadAs.TheVariants as reads
 use Rattle.html_tokens.proofs.StepRuns.{run_found, nothing_in_data, run_is_some}
 use Rattle.html_tokens.proofs.step.front_step.Goals as goal
 

@@ -4,7 +4,7 @@ use Rattle.std.proofs.lemmas.Str.{IsCharBoundary-end}
 use Rattle.html_tokens.specs.Stepping.{StepsTo}
 use Rattle.html_tokens.specs.declared.step.Step.{Step}
 use Rattle.html_tokens.specs.declared.mode.Mode.TheVariants as mode
-use Rattle.html_tokens.specs.declared.stretch.ReadAs.TheVariants as reads
+use Rattle.html_references.specs.declared.stretch.ReadAs.TheVariants as reads
 use Rattle.html_tokens.proofs.StepRuns.{run_found, plain_reads, nothing_in_plaintext}
 use Rattle.html_tokens.proofs.step.plain_step.Goals as goal
 

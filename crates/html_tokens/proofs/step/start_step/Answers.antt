@@ -1,9 +1,10 @@
 use Rattle.std.proofs.Common.{◌≡◌, ◌-◌, ℕ, List, take, drop, map, false, refl, ap, subst, ◌∙◌, IsCharBoundary, arith}
-use Rattle.html_tokens.specs.Characters.{lower}
-use Rattle.html_tokens.specs.States.{Tag, new_tag, after_start, shown}
-use Rattle.html_tokens.specs.States.State.{TagName, BeforeName}
-use Rattle.html_tokens.specs.Tokenizer.{read}
-use Rattle.html_tokens.specs.Input.{input, named_by, with_attributes, ended}
+use Rattle.html_syntax.specs.Characters.{lower}
+use Rattle.html_syntax.specs.States.{Tag, new_tag, state_after_start, replace_null}
+use Rattle.html_syntax.specs.States.State.{TagName, BeforeName}
+use Rattle.html_syntax.specs.Tokenizer.{read}
+use Rattle.html_references.specs.Input.{input}
+use Rattle.html_tokens.specs.Tags.{named_by, with_attributes, ended}
 use Rattle.html_tokens.specs.Scanned.{state_in}
 use Rattle.html_tokens.specs.declared.span.Part.TheVariants as part
 use Rattle.html_tokens.proofs.StepRuns.{tag_found, start_read}
@@ -22,6 +23,6 @@ returns-in-Some c =
     let closes = subst (λ (l : List ℕ). read (BeforeName tag) 0 (input l) ≡ ended (with_attributes tag found.0) (input (drop n l))) after_is found.1 in
     let whole : len - 0 ≡ len = omega arith in
     let name_is : c.range.result.now ≡ take len (drop 1 rest) = c.range.ensures.value ∙ ap (λ (x : ℕ). take x c.range_from-inside.result.now) whole ∙ ap (take len) inside_is in
-    let mode_is : state_in c.mode_after.result ≡ after_start (map lower (map shown (input (take len (drop 1 rest))))) = c.mode_after.ensures ∙ ap (λ (l : List ℕ). after_start (map lower (map shown (input l)))) name_is in
+    let mode_is : state_in c.mode_after.result ≡ state_after_start (map lower (map replace_null (input (take len (drop 1 rest))))) = c.mode_after.ensures ∙ ap (λ (l : List ℕ). state_after_start (map lower (map replace_null (input l)))) name_is in
     tag_found rest part.StartTag 1 len n c.mode_after.result _ c.utf8.rest c.requires.boundary (subst (λ (l : List ℕ). IsCharBoundary l len) inside_is c.name_end-name_len.ensures.boundary)
     (subst (λ (l : List ℕ). IsCharBoundary l n) after_is c.in-Some.ensures.boundary) (omega arith) refl (λ given. (c.requires.opens, given)) tt tt tt (start_read rest len n c.mode_after.result found.0 c.requires.reads named closes mode_is)

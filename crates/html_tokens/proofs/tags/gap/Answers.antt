@@ -1,8 +1,8 @@
 use Rattle.std.proofs.Common.{◌≡◌, ℕ, drop, IsCharBoundary, refl, ap, subst, sym, ◌∙◌}
 use Rattle.std.specs.List.{prefix_len}
-use Rattle.html_tokens.specs.States.State.{BeforeName}
-use Rattle.html_tokens.specs.Tokenizer.{read}
-use Rattle.html_tokens.specs.Input.{input}
+use Rattle.html_syntax.specs.States.State.{BeforeName}
+use Rattle.html_syntax.specs.Tokenizer.{read}
+use Rattle.html_references.specs.Input.{input}
 use Rattle.html_tokens.specs.Tags.{belongs, BeginsOutside}
 use Rattle.html_tokens.specs.declared.tags.Class.TheVariants as class
 use Rattle.html_tokens.proofs.TagRuns.{small_boundary, prefix_outside, passed}

@@ -1,9 +1,9 @@
 use Rattle.std.proofs.Common.{◌≡◌, ℕ, take, drop, IsCharBoundary, ap, sym, subst, ◌∙◌}
 use Rattle.std.specs.List.{prefix_len}
-use Rattle.html_tokens.specs.States.State.{TagName, BeforeName}
-use Rattle.html_tokens.specs.Tokenizer.{read}
-use Rattle.html_tokens.specs.Input.{input, named_by}
-use Rattle.html_tokens.specs.Tags.{belongs}
+use Rattle.html_syntax.specs.States.State.{TagName, BeforeName}
+use Rattle.html_syntax.specs.Tokenizer.{read}
+use Rattle.html_references.specs.Input.{input}
+use Rattle.html_tokens.specs.Tags.{belongs, named_by}
 use Rattle.html_tokens.specs.declared.tags.Class.TheVariants as class
 use Rattle.html_tokens.proofs.TagRuns.{wide_boundary}
 use Rattle.html_tokens.proofs.TagNames.{tag_named, name_wide}

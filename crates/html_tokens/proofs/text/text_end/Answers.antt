@@ -1,7 +1,7 @@
 use Rattle.std.proofs.Common.{◌≡◌, ℕ, List, false, take, drop, IsCharBoundary, ap, sym, subst, ◌∙◌, arith}
 use Rattle.html_tokens.specs.Cuts.{Lacks, BeginsWith}
 use Rattle.html_tokens.specs.Scanned.{opens_markup}
-use Rattle.html_tokens.specs.States.State.{Data}
+use Rattle.html_syntax.specs.States.State.{Data}
 use Rattle.html_tokens.proofs.Runs.{emits}
 use Rattle.html_tokens.proofs.Marks.{kept_first, kept_next, past_mark}
 use Rattle.html_tokens.proofs.TextRuns.{text_of, data_marks, Alone}

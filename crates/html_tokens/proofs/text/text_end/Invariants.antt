@@ -1,6 +1,6 @@
 use Rattle.std.proofs.Common.{◌-◌, length, []}
-use Rattle.html_tokens.specs.States.State.{Data}
-use Rattle.html_tokens.specs.Input.{input}
+use Rattle.html_syntax.specs.States.State.{Data}
+use Rattle.html_references.specs.Input.{input}
 use Rattle.html_tokens.proofs.Runs.{emits}
 use Rattle.html_tokens.proofs.Marks.{Kept}
 use Rattle.html_tokens.proofs.TextRuns.{text_of}

@@ -1,6 +1,6 @@
 use Rattle.std.proofs.Common.{◌++◌, List, ap, ◌∙◌}
-use Rattle.html_tokens.specs.declared.token.Token.{Token as HeldToken}
-use Rattle.html_tokens.specs.Held.{meanings}
+use Rattle.html_syntax.specs.declared.token.Token.{Token as HeldToken}
+use Rattle.html_syntax.specs.Held.{meanings}
 use Rattle.html_tokens.specs.Scanned.{left, span_tokens}
 use Rattle.html_tokens.proofs.Wholes.{left_at_start, one_more}
 use Rattle.html_tokens.proofs.whole.read_tokens.Goals as goal

@@ -1,7 +1,7 @@
 use Rattle.std.proofs.Common.{◌≡◌, ◌-◌, ◌++◌, length, chars}
-use Rattle.html_tokens.specs.Held.{meanings}
+use Rattle.html_syntax.specs.Held.{meanings}
 use Rattle.html_tokens.specs.Scanned.{left}
-use Rattle.html_tokens.specs.Tokenizer.{tokens}
+use Rattle.html_syntax.specs.Tokenizer.{tokens}
 use Rattle.html_tokens.proofs.whole.read_tokens.Given as goal
 
 -- what is read and what is left are the tokens of the text

@@ -1,11 +1,11 @@
 use Rattle.std.proofs.Common.{◌≡◌, ◌∙◌, ◌-◌, ◌<◌, ℕ, List, ◌∷◌, true, length, get_or, Some, string_bytes, chars, encode_utf8_all, refl, sym, ap, subst, arith, vec_len}
-use Rattle.html_tokens.specs.Token.Token.{End}
+use Rattle.html_syntax.specs.Token.Token.{End}
 use Rattle.page_writer.specs.Page.{outer, spell_token}
 use Rattle.page_writer.specs.Writer.{Page, names_of, innermost}
 use Rattle.page_writer.proofs.Opening.{Moves, moves, may_end, popped, length-names_of}
 use Rattle.page_writer.proofs.PageOut.end.Goals as goal
 
-left : (c : goal.Joined-pop) → Moves true c.add_end.new.out.items (names_of c.pop.new.self.items) (End (innermost c.args.self.now.opened)) c.args.self.now
+left : (c : goal.Joined-pop) → Moves true c.add_end.new.self (names_of c.pop.new.self.items) (End (innermost c.args.self.now.opened)) c.args.self.now
 left c =
     let items = c.self.inside.inside.items in
     let opened = names_of items in
@@ -16,9 +16,9 @@ left c =
     let names : opened ≡ chars (string_bytes x) ∷ names_of c.pop.new.self.items = popped items c.pop.new.self.items c.pop.result x c.pop.ensures.items is in
     let inner : innermost opened ≡ innermost c.args.self.now.opened = ap (λ (p : Page). innermost p.opened) c.self.view_is in
     let name : chars c.as_str.result.now ≡ innermost opened = ap chars c.as_str.ensures.value ∙ sym (ap innermost names) in
-    subst (λ (n : List ℕ). Moves true c.add_end.new.out.items (names_of c.pop.new.self.items) (End n) c.args.self.now) inner
-    (moves true c.self.inside.bytes.items c.add_end.new.out.items (encode_utf8_all (spell_token (End (chars c.as_str.result.now)))) opened (names_of c.pop.new.self.items) (names_of c.pop.new.self.items) (End (innermost opened)) c.args.self.now
-    c.self.view_is c.in_ok-add_end.ensures refl (sym (ap outer names)) (ap (λ (n : List ℕ). encode_utf8_all (spell_token (End n))) name) c.self.invariant (λ _. may_end c.self.inside.bytes.items opened c.self.invariant some))
+    subst (λ (n : List ℕ). Moves true c.add_end.new.self (names_of c.pop.new.self.items) (End n) c.args.self.now) inner
+    (moves true c.self.inside.bytes c.add_end.new.self (encode_utf8_all (spell_token (End (chars c.as_str.result.now)))) opened (names_of c.pop.new.self.items) (names_of c.pop.new.self.items) (End (innermost opened)) c.args.self.now
+    c.self.view_is c.in_ok-add_end.ensures refl (sym (ap outer names)) (ap (λ (n : List ℕ). encode_utf8_all (spell_token (End n))) name) c.self.invariant (λ _. may_end c.self.inside.bytes opened c.self.invariant some))
 
 pub invariant_of-self-2 : goal.invariant_of-self-2
 invariant_of-self-2 c = (left c).held

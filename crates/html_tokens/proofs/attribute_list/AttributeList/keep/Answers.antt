@@ -1,6 +1,6 @@
 use Rattle.std.proofs.Common.{◌≡◌, ◌++◌, ◌∷◌, [], ◌-◌, ℕ, List, map, take, chars, string_bytes, sym, ap, subst, ◌∙◌, arith}
 use Rattle.std.proofs.lemmas.List.{map-append}
-use Rattle.html_tokens.specs.Token.{Attribute, attribute_of}
+use Rattle.html_syntax.specs.Token.{Attribute, attribute_of}
 use Rattle.html_tokens.specs.Kept.{HoldsNames}
 use Rattle.html_tokens.specs.Tags.{name_read, value_read, kept_among, attribute_at}
 use Rattle.html_tokens.proofs.HeldNames.{held_new, held_more, held_again, kept_one, kept_none, attribute_is}

@@ -1,0 +1,99 @@
+//! The kinds of work, by their names on the command line.
+
+use crate::{codings, flowed, parts, responses, tokens};
+use std::alloc::{AllocError, Global};
+use std::str::from_utf8;
+use transfer_codings::Coding;
+
+#[derive(Clone, Copy)]
+pub enum Work {
+    Decode(Coding),
+    EncodeBase64,
+    EncodeQuoted,
+    Tree,
+    /// Responses of a stream that comes in pieces of this many bytes.
+    Responses {
+        piece: usize,
+    },
+    ReadFlowed {
+        del_sp: bool,
+    },
+    WriteFlowed {
+        depth: u32,
+    },
+    Spans,
+    Tokens,
+    PrintTokens,
+}
+
+/// The input as bytes and, if it is UTF-8, as text; the text of other input is empty.
+#[derive(Drop)]
+pub struct Input<'a> {
+    pub bytes: &'a [u8],
+    pub text: &'a str,
+}
+
+impl<'a> Input<'a> {
+    pub fn new(bytes: &'a [u8]) -> Self {
+        Input {
+            bytes,
+            text: from_utf8(bytes).unwrap_or(""),
+        }
+    }
+}
+
+pub fn work_named(word: &str) -> Option<Work> {
+    match word {
+        "decode-base64" => Some(Work::Decode(Coding::Base64)),
+        "decode-quoted" => Some(Work::Decode(Coding::Quoted)),
+        "encode-base64" => Some(Work::EncodeBase64),
+        "encode-quoted" => Some(Work::EncodeQuoted),
+        "tree" => Some(Work::Tree),
+        "responses" => Some(Work::Responses { piece: usize::MAX }),
+        "responses-4096" => Some(Work::Responses { piece: 4096 }),
+        "responses-64" => Some(Work::Responses { piece: 64 }),
+        "responses-1" => Some(Work::Responses { piece: 1 }),
+        "read-flowed" => Some(Work::ReadFlowed { del_sp: false }),
+        "read-flowed-del-sp" => Some(Work::ReadFlowed { del_sp: true }),
+        "write-flowed" => Some(Work::WriteFlowed { depth: 0 }),
+        "write-flowed-quoted" => Some(Work::WriteFlowed { depth: 80 }),
+        "spans" => Some(Work::Spans),
+        "tokens" => Some(Work::Tokens),
+        "print-tokens" => Some(Work::PrintTokens),
+        _ => None,
+    }
+}
+
+/// Does the work once, and returns how many bytes, parts, responses, paragraphs, spans or tokens came of it.
+pub fn perform(alloc: Global, work: Work, input: &Input<'_>) -> Result<usize, AllocError> {
+    match work {
+        Work::Decode(_) | Work::EncodeBase64 | Work::EncodeQuoted => {
+            Ok(codings::result_of(alloc, work, input.bytes)?.len())
+        }
+        Work::Tree => parts::count_parts(alloc, input.bytes),
+        Work::Responses { piece } => responses::count_responses(alloc, input.bytes, piece),
+        Work::ReadFlowed { del_sp } => flowed::count_paragraphs(alloc, input.text, del_sp),
+        Work::WriteFlowed { depth } => flowed::written_len(alloc, input.text, depth),
+        Work::Spans => Ok(tokens::count_spans(input.text)),
+        Work::Tokens => tokens::count_tokens(alloc, input.text),
+        Work::PrintTokens => Ok(tokens::print_tokens(alloc, input.text)?.len()),
+    }
+}
+
+/// Does the work once, and returns its result as bytes: a listing, or a count if nothing more is to be seen.
+pub fn result_of(alloc: Global, work: Work, input: &Input<'_>) -> Result<Vec<u8>, AllocError> {
+    match work {
+        Work::Decode(_) | Work::EncodeBase64 | Work::EncodeQuoted => {
+            codings::result_of(alloc, work, input.bytes)
+        }
+        Work::Tree => Ok(parts::list_parts(alloc, input.bytes)?.into_bytes()),
+        Work::Responses { piece } => {
+            Ok(responses::list_counts(alloc, input.bytes, piece)?.into_bytes())
+        }
+        Work::PrintTokens => Ok(tokens::print_tokens(alloc, input.text)?.into_bytes()),
+        Work::ReadFlowed { .. } | Work::WriteFlowed { .. } | Work::Spans | Work::Tokens => {
+            let count = perform(alloc, work, input)?;
+            Ok(format!(in alloc; "{count}\n")?.into_bytes())
+        }
+    }
+}

@@ -1,0 +1,9 @@
+//! Stretches of an HTML text with their character references decoded (HTML Standard 13.2.5.72 to 13.2.5.80).
+#![tactic(auto)]
+
+mod names;
+pub mod prefixes;
+pub mod references;
+pub mod stretch;
+
+pub use std::alloc::AllocError as Memory;

@@ -1,0 +1,7 @@
+pub mod Facts
+pub mod Nesting
+pub mod Parts
+pub mod Mail
+mod Examples
+mod TextPage
+mod Guards

@@ -1,0 +1,50 @@
+-- The tokens that the frame of a page may have: all that does not come from a message.
+use Rattle.std.specs.Prelude.{ℕ, Bool, true, false, not, ◌&&◌, ◌||◌, ◌==◌, if◌then◌else◌, List, [], ◌∷◌, codes}
+use Rattle.std.specs.List.{list_all, list_any}
+use Rattle.html_syntax.specs.Characters.{tabulation, line_feed, carriage_return, solidus}
+use Rattle.html_syntax.specs.Token.{Attribute, Token}
+use Rattle.html_syntax.specs.Token.Token.{Start, End, Char, Comment, Doctype}
+use Rattle.html_syntax.specs.Tokenizer.{same, is_among}
+use Rattle.html_rules.specs.Tables.{Name, words, is_element, is_frame_attribute_name}
+
+abbrev pub reverse_solidus : ℕ
+reverse_solidus = 0x5C
+
+-- An address on the site itself: `/`, and then neither `/` nor `\`, which would begin the name of another site, nor a TAB, LF
+-- or CR, which an address loses when it is read (URL Standard, 4.4).
+abbrev pub is_local_address : List ℕ → Bool
+is_local_address [] = false
+is_local_address (c ∷ []) = c == solidus
+is_local_address (c ∷ d ∷ cs) = c == solidus && not (d == solidus || d == reverse_solidus || d == tabulation || d == line_feed || d == carriage_return)
+
+abbrev pub style_sheet : List ℕ
+style_sheet = codes "/site.css"
+
+-- what a frame loads is its style sheet, and where it leads and sends is the site itself
+abbrev pub is_frame_value : Name → Attribute → Bool
+is_frame_value element a =
+    if same (codes "href") a.name && same (codes "link") element then same style_sheet a.value
+    else (if same (codes "href") a.name || same (codes "action") a.name then is_local_address a.value else true)
+
+abbrev pub is_frame_attribute : Name → Attribute → Bool
+is_frame_attribute element a = is_frame_attribute_name a.name && is_frame_value element a
+
+unfoldable pub is_frame_token : Token → Bool
+is_frame_token (Start name attributes) = is_element name && list_all (is_frame_attribute name) attributes
+is_frame_token (End name) = is_element name
+is_frame_token (Char c) = true
+is_frame_token (Comment text) = false
+is_frame_token Doctype = true
+
+-- a class of the element
+abbrev pub has_class : List ℕ → Attribute → Bool
+has_class class a = same (codes "class") a.name && is_among (words a.value) class
+
+-- a `div` of the class `mail`, in which a message stands
+unfoldable pub opens_mail : Token → Bool
+opens_mail (Start name attributes) = same (codes "div") name && list_any (has_class (codes "mail")) attributes
+opens_mail _ = false
+
+-- a frame in which no message stands
+abbrev pub is_frame : List Token → Bool
+is_frame tokens = list_all (λ t. is_frame_token t && not (opens_mail t)) tokens

@@ -1,0 +1,19 @@
+-- The tokens that the code's tokens stand for.
+use Rattle.std.specs.Prelude.{List, [], ◌∷◌, ◌++◌, chars}
+use Rattle.html_syntax.specs.declared.token.Token.TheVariants as held
+use Rattle.html_syntax.specs.declared.token.Token.{Token as HeldToken}
+use Rattle.html_syntax.specs.Token.{Token}
+use Rattle.html_syntax.specs.Token.Token.{Start, End, Comment, Doctype}
+use Rattle.html_syntax.specs.Rows.{chars as char_tokens}
+
+-- a token of text stands for a character token for each of its characters
+abbrev pub meaning : HeldToken → List Token
+meaning (held.Start name attributes) = Start (chars name) attributes ∷ []
+meaning (held.End name) = End (chars name) ∷ []
+meaning (held.Chars text) = char_tokens (chars text)
+meaning (held.Comment text) = Comment (chars text) ∷ []
+meaning held.Doctype = Doctype ∷ []
+
+abbrev pub meanings : List HeldToken → List Token
+meanings [] = []
+meanings (t ∷ ts) = meaning t ++ meanings ts

@@ -1,8 +1,0 @@
-use Rattle.std.proofs.Common.{◌≡◌, map, drop, chars}
-use Rattle.html_tokens.specs.Token.{attribute_of}
-use Rattle.html_tokens.specs.States.{has_name}
-use Rattle.html_tokens.proofs.attributes.Attributes.contains.Given as goal
-
--- the names before this one are others
-abbrev pub invariant-loop-known : goal.invariant-loop-known
-invariant-loop-known l = has_name (chars l.name) (map attribute_of (drop l.known-index l.known-items)) ≡ has_name (chars l.name) l.self

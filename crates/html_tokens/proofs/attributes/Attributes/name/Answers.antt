@@ -1,6 +1,0 @@
-use Rattle.std.proofs.Common.{sym, ◌∙◌}
-use Rattle.html_tokens.proofs.Pairs.{name_at-map}
-use Rattle.html_tokens.proofs.attributes.Attributes.name.Goals as goal
-
-pub returns : goal.returns
-returns c = rw (← c.self.view_is) (c.as_str.ensures.value ∙ sym (name_at-map c.self.inside.pairs.items c.args.index c.index.result.now (rw c.self.view_is c.requires) c.index.ensures))

@@ -1,5 +1,0 @@
-use Rattle.html_tokens.proofs.Looks.{three_looks}
-use Rattle.html_tokens.proofs.laws.three_looks_suffice.Goals as goal
-
-pub returns : goal.returns
-returns c = three_looks

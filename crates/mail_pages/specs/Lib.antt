@@ -1,0 +1,5 @@
+pub mod Text
+pub mod Gathered
+pub mod Frame
+pub mod Mail
+pub mod ShowPage

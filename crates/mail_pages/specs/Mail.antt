@@ -1,0 +1,80 @@
+-- What is shown of a message, and the tokens that show it.
+use Rattle.std.specs.Prelude.{ℕ, Bool, true, false, ◌||◌, List, [], ◌∷◌, ◌++◌, if◌then◌else◌, codes, bytes_eq, Option, Some, None, is_some, unwrap_or, option_and_then}
+use Rattle.html_syntax.specs.Token.{Token}
+use Rattle.html_syntax.specs.Token.Token.{End}
+use Rattle.html_rules.specs.Tokens.{start_tag}
+use Rattle.mail_values.specs.Section.{spelling}
+use Rattle.transfer_codings.specs.Codings.{decoded}
+use Rattle.transfer_codings.specs.Charsets.{charset_named, text_in}
+use Rattle.transfer_codings.specs.declared.charset.Charset.TheVariants.{Utf8}
+use Rattle.mime_tree.specs.declared.choice.Shown.{Shown}
+use Rattle.mime_tree.specs.declared.choice.Shown.TheVariants.{Plain, Flowed, Html, Unread, Nothing}
+use Rattle.mime_tree.specs.Best.{best_of, part_at, shown_as, is_html}
+use Rattle.mime_tree.specs.Tree.{PartValue, TreeValue}
+use Rattle.mail_pages.specs.Text.{line_feeds}
+use Rattle.mail_pages.specs.Frame.{text, element, line_end}
+
+-- ---- which part
+
+-- a plain text or a page
+abbrev pub is_text_part : PartValue → Bool
+is_text_part p = bytes_eq p.mime (codes "text/plain") || is_html p
+
+-- how a text is shown, if its charset is read
+abbrev pub text_shown_as : PartValue → Shown
+text_shown_as p = if is_some (charset_named p.charset) then shown_as p else Unread p.section
+
+-- how a part that was asked for is shown, attached or not, and wherever it is: None if it is no text
+abbrev pub asked_as : PartValue → Option Shown
+asked_as p = if is_text_part p then Some (text_shown_as p) else None
+
+-- what is shown: of the part that was asked for, else the best
+abbrev pub chosen : TreeValue → Option (List ℕ) → Option Shown
+chosen tree None = Some (best_of tree)
+chosen tree (Some section) = option_and_then asked_as (part_at section tree.parts)
+
+-- what isn't shown yet: pages, and flowed text
+abbrev pub is_unbuilt : Shown → Bool
+is_unbuilt (Plain section) = false
+is_unbuilt (Flowed section del_sp) = true
+is_unbuilt (Html section) = true
+is_unbuilt (Unread section) = false
+is_unbuilt Nothing = false
+
+-- ---- its tokens
+
+-- the text of a part, in UTF-8: its bytes decoded and read by its charset, with CR LF and lone CR as LF
+abbrev pub text_of_part : PartValue → List ℕ
+text_of_part p = line_feeds (text_in (unwrap_or (charset_named p.charset) Utf8) (decoded p.coding p.bytes))
+
+-- a plain text
+unfoldable pub plain_text : List ℕ → List Token
+plain_text content = start_tag (codes "pre") ∷ line_end ∷ text content ++ End (codes "pre") ∷ []
+
+-- a paragraph in place of a text
+unfoldable pub paragraph : List ℕ → List Token
+paragraph content = element (codes "p") content
+
+abbrev pub unread_words : PartValue → List ℕ
+unread_words p = codes "Charset " ++ p.charset ++ codes " is not read here; part " ++ spelling p.section ++ codes " is offered below."
+
+abbrev pub plain_part : Option PartValue → List Token
+plain_part (Some p) = plain_text (text_of_part p)
+plain_part None = []
+
+abbrev pub unread_part : Option PartValue → List Token
+unread_part (Some p) = paragraph (unread_words p)
+unread_part None = []
+
+-- the tokens that show it
+unfoldable pub mail_of : List PartValue → Shown → List Token
+mail_of parts (Plain section) = plain_part (part_at section parts)
+mail_of parts (Unread section) = unread_part (part_at section parts)
+mail_of parts Nothing = paragraph (codes "No text to show.")
+mail_of parts (Flowed section del_sp) = []
+mail_of parts (Html section) = []
+
+-- and of nothing, where no part was found
+abbrev pub mail_or_none : List PartValue → Option Shown → List Token
+mail_or_none parts (Some shown) = mail_of parts shown
+mail_or_none parts None = []

@@ -1,4 +1,0 @@
-pub mod Entries
-pub mod Literals
-pub mod Plain
-pub mod Read

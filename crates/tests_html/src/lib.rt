@@ -1,0 +1,13 @@
+//! Tests of the crates that read and write HTML, by their public calls alone. Each file has the tests of one crate.
+#![tactic(auto)]
+
+#[cfg(test)]
+mod attributes;
+#[cfg(test)]
+mod pages;
+#[cfg(test)]
+mod styles;
+#[cfg(test)]
+mod tables;
+#[cfg(test)]
+mod tokens;

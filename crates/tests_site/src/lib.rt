@@ -1,0 +1,5 @@
+//! Tests of the pages and the runs, by their public calls alone. Each file has the tests of one subject.
+#![tactic(auto)]
+
+#[cfg(test)]
+mod show;

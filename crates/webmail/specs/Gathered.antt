@@ -1,9 +1,0 @@
--- A text that is written to a page some of it at a time.
-use Rattle.std.specs.Prelude.{◌≡◌, ℕ, List, ◌++◌}
-use Rattle.page_writer.specs.Writer.{Page}
-use Rattle.webmail.specs.Frame.{text}
-
--- What was gathered, and then more, is written or gathered now, whatever comes after it.
-pub record Gathers (before : Page) (gathered : List ℕ) (after : Page) (left : List ℕ) (more : List ℕ) : Type 0 where
-  pub written : (rest : List ℕ) → after.written ++ (text left ++ text rest) ≡ before.written ++ (text gathered ++ text (more ++ rest))
-  pub opened : after.opened ≡ before.opened

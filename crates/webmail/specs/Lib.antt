@@ -1,6 +1,0 @@
-pub mod Text
-pub mod Gathered
-pub mod Frame
-pub mod Mail
-pub mod ShowPage
-pub mod Run
