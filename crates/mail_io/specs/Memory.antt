@@ -1,4 +1,4 @@
--- What is seen of a source and a sink in memory.
+-- How contracts see a source and a sink in memory.
 use Rattle.std.specs.Prelude.{ℕ, ◌+◌, ◌-◌, ◌^◌, min, List}
 
 -- the bytes that are left, the calls and the faults so far, and the numbers of the calls that fail, from 1
@@ -16,6 +16,6 @@ pub record SinkState : Type 0 where
   pub faults : ℕ
   pub failing : List ℕ
 
--- one more, up to the type's end
-abbrev pub counted : ℕ → ℕ
-counted n = min (n + 1) (2 ^ 64 - 1)
+-- one more, up to the end of the type
+abbrev pub next_count : ℕ → ℕ
+next_count n = min (n + 1) (2 ^ 64 - 1)

@@ -1,10 +1,10 @@
-//! Any reader and any writer of std as a source and a sink.
+//! Adapters from std's readers and writers to sources and sinks.
 ghost use Rattle.std.specs.Prelude.{◌≡◌};
 
 use crate::{Failed, Sink, Source};
 use std::io::{Read, Write};
 
-/// A source over a reader. Each error of the reader is a fault.
+/// A source over a reader, whose errors are faults.
 #[derive(Drop)]
 pub struct ReaderSource<R: Read> {
     reader: R,
@@ -35,7 +35,7 @@ impl<R: Read> Source for ReaderSource<R> {
     }
 }
 
-/// A sink over a writer. Each error of the writer is a fault, and so is taking nothing of a piece that isn't empty.
+/// A sink over a writer. Its errors are faults, and so is a write of 0 bytes of a nonempty piece.
 #[derive(Drop)]
 pub struct WriterSink<W: Write> {
     writer: W,

@@ -1,4 +1,4 @@
-//! A source read to its end, and bytes written whole.
+//! Loops over sources and sinks.
 ghost use Rattle.std.specs.Prelude.{◌≡◌, ◌<◌, ◌^◌, IfOk, OnOk, IsErrOf, OnErr};
 ghost use Rattle.std.specs.Io.KnownBytes.{Appends};
 ghost use Rattle.mail_io.specs.Causes.{Rose, HasCause};
@@ -7,12 +7,12 @@ ghost use Rattle.mail_io.specs.Stream.{ReadsWhole, ReadsPast, ReadsSome, WritesS
 use crate::{Failed, Sink, Source};
 use std::alloc::{AllocError, Global};
 
-/// Why a source wasn't read to its end.
+/// The reason that a source was not read to its end.
 #[derive(Clone, Copy, Debug, PartialEq, Eq)]
 pub enum InputFault {
-    /// The source's count of faults rose.
+    /// The source's fault count rose.
     Failed,
-    /// More bytes came than the limit allows.
+    /// The source has more bytes than the limit.
     Long,
     Memory,
 }
@@ -39,10 +39,10 @@ impl From<Failed> for InputFault {
     }
 }
 
-/// How many bytes are asked for at once.
+/// The greatest number of bytes that are asked for at once.
 const CHUNK: usize = 65_536;
 
-/// Reads a source to its end; at most `limit` bytes and the one that shows that there are more.
+/// Reads a source to its end, and at most `limit` bytes and one more.
 pub fn read_to_end<R: Source>(
     alloc: Global,
     source: &mut R,
@@ -53,7 +53,7 @@ pub fn read_to_end<R: Source>(
     ensures failed { IsErrOf result InputFault.Failed → Rose (R.faults source.old) (R.faults source.new) }
     ensures failed_after { IsErrOf result InputFault.Failed → ReadsSome limit (R.left source.old) (R.left source.new) }
     ensures long { IsErrOf result InputFault.Long → ReadsPast limit (R.left source.old) (R.left source.new) }
-    ensures kept { (IsErrOf result InputFault.Failed → ⊥) → R.faults source.new ≡ R.faults source.old }
+    ensures keeps_faults { (IsErrOf result InputFault.Failed → ⊥) → R.faults source.new ≡ R.faults source.old }
 {
     let mut bytes = Vec::new(alloc);
     let mut chunk = [0u8; CHUNK];
@@ -68,10 +68,10 @@ pub fn read_to_end<R: Source>(
     Err(InputFault::Long)
 }
 
-/// Writes bytes to their end. At a fault a proper prefix of them was written.
+/// Writes all of `bytes`. At a fault a proper prefix of them was written.
 pub fn write_whole<W: Sink>(sink: &mut W, bytes: &[u8]) -> Result<(), Failed>
     ensures whole { OnOk result (Appends (W.taken sink.old) (W.taken sink.new) bytes.now) }
-    ensures part { OnErr result (WritesSome (W.taken sink.old) (W.taken sink.new) bytes.now) }
+    ensures prefix { OnErr result (WritesSome (W.taken sink.old) (W.taken sink.new) bytes.now) }
     ensures cause { HasCause (W.faults sink.old) (W.faults sink.new) result }
 {
     let mut at = 0;

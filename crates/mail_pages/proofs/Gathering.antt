@@ -15,9 +15,9 @@ use Rattle.std.specs.declared.result.Result.{Result}
 use Rattle.std.specs.declared.result.Result.TheVariants.{Ok, Err}
 use Rattle.html_rules.specs.Tables.{Name}
 use Rattle.mail_pages.specs.Frame.{text, with_tokens}
-use Rattle.mail_pages.specs.Text.{is_return, line_feeds}
+use Rattle.mail_pages.specs.Text.{is_carriage_return, with_line_feeds}
 use Rattle.mail_pages.proofs.LineFeeds.{line_feeds-clean, line_feeds-nil}
-use Rattle.mail_pages.specs.Gathered.{Gathers}
+use Rattle.mail_pages.specs.Gathered.{GathersText}
 
 shown-append : (xs ys : List ℕ) → text_tokens (xs ++ ys) ≡ text_tokens xs ++ text_tokens ys
 shown-append [] ys = refl
@@ -36,7 +36,7 @@ text-append xs ys valid = ap text_tokens (chars-append xs ys valid) ∙ shown-ap
 
 -- more was gathered
 pub gathers-more : (page : Page) (gathered left more : List ℕ) → IsUtf8 gathered → IsUtf8 more → left ≡ gathered ++ more
-    → Gathers page gathered page left more
+    → GathersText page gathered page left more
 gathers-more page gathered left more valid also e = record {
   written = λ rest.
       ap (λ t. page.written ++ (text t ++ text rest)) e
@@ -49,7 +49,7 @@ gathers-more page gathered left more valid also e = record {
 -- all that was gathered is written
 pub gathers-written : (before : Page) (written : Page) (gathered all left more : List ℕ) → IsUtf8 gathered → IsUtf8 more → all ≡ gathered ++ more
     → written ≡ record { written = before.written ++ text all; opened = before.opened } → left ≡ []
-    → Gathers before gathered written left more
+    → GathersText before gathered written left more
 gathers-written before written gathered all left more valid also e is none =
     let more_of = gathers-more before gathered all more valid also e in
     record {
@@ -64,9 +64,9 @@ gathers-written before written gathered all left more valid also e is none =
 
 -- the last of a text is gathered
 pub gathers-last : {X Y : Type 0} (result : Result X Y) (first before after : Page) (gathered lines left rest whole : List ℕ)
-    → ((more : List ℕ) → before.written ++ (text lines ++ text (line_feeds rest ++ more)) ≡ first.written ++ (text gathered ++ text (line_feeds whole ++ more))) → before.opened ≡ first.opened
-    → position_or_len is_return rest ≡ length rest
-    → OnOk result (Gathers before lines after left rest) → OnOk result (Gathers first gathered after left (line_feeds whole))
+    → ((more : List ℕ) → before.written ++ (text lines ++ text (with_line_feeds rest ++ more)) ≡ first.written ++ (text gathered ++ text (with_line_feeds whole ++ more))) → before.opened ≡ first.opened
+    → position_or_len is_carriage_return rest ≡ length rest
+    → OnOk result (GathersText before lines after left rest) → OnOk result (GathersText first gathered after left (with_line_feeds whole))
 gathers-last (Err e) first before after gathered lines left rest whole written opened none ok = tt
 gathers-last (Ok x) first before after gathered lines left rest whole written opened none ok = record {
   written = λ more. ok.written more ∙ ap (λ t. before.written ++ (text lines ++ text (t ++ more))) (sym (line_feeds-clean rest (omega arith))) ∙ written more;
@@ -75,7 +75,7 @@ gathers-last (Ok x) first before after gathered lines left rest whole written op
 
 -- what is gathered is written
 pub gathers-all : {X Y : Type 0} (result : Result X Y) (first before after : Page) (none gathered written whole : List ℕ)
-    → none ≡ [] → Gathers first none before gathered whole → written ≡ gathered
+    → none ≡ [] → GathersText first none before gathered whole → written ≡ gathered
     → OnOk result (after ≡ with_tokens before (text written) before.opened) → OnOk result (after ≡ with_tokens first (text whole) first.opened)
 gathers-all (Err e) first before after none gathered written whole is more same ok = tt
 gathers-all (Ok x) first before after none gathered written whole is more same ok =
@@ -91,23 +91,23 @@ gathers-all (Ok x) first before after none gathered written whole is more same o
     ∙ ap (λ (names : List Name). record { written = first.written ++ text whole; opened = names }) more.opened
 
 -- two texts one after the other
-pub gathers-two : (first middle last : Page) (a b c x y more : List ℕ) → Gathers first a middle b x → Gathers middle b last c y
+pub gathers-two : (first middle last : Page) (a b c x y more : List ℕ) → GathersText first a middle b x → GathersText middle b last c y
     → last.written ++ (text c ++ text more) ≡ first.written ++ (text a ++ text (x ++ (y ++ more)))
 gathers-two first middle last a b c x y more one two = two.written more ∙ one.written (y ++ more)
 
 -- a text of which nothing is left
 pub gathers-from : (first after : Page) (gathered left whole : List ℕ) → left ≡ []
-    → ((more : List ℕ) → after.written ++ (text gathered ++ text (line_feeds left ++ more)) ≡ first.written ++ (text [] ++ text (whole ++ more))) → after.opened ≡ first.opened
-    → Gathers first [] after gathered whole
+    → ((more : List ℕ) → after.written ++ (text gathered ++ text (with_line_feeds left ++ more)) ≡ first.written ++ (text [] ++ text (whole ++ more))) → after.opened ≡ first.opened
+    → GathersText first [] after gathered whole
 gathers-from first after gathered left whole none written opened = record {
   written = λ more.
-      ap (λ t. after.written ++ (text gathered ++ text (t ++ more))) (sym (ap line_feeds none ∙ line_feeds-nil)) ∙ written more;
+      ap (λ t. after.written ++ (text gathered ++ text (t ++ more))) (sym (ap with_line_feeds none ∙ line_feeds-nil)) ∙ written more;
   opened = opened;
 }
 
 -- more was gathered, and then perhaps written
 pub gathers-on : {X Y : Type 0} (result : Result X Y) (before after : Page) (gathered all left more : List ℕ) → IsUtf8 gathered → IsUtf8 more → all ≡ gathered ++ more
-    → OnOk result (Gathers before all after left []) → OnOk result (Gathers before gathered after left more)
+    → OnOk result (GathersText before all after left []) → OnOk result (GathersText before gathered after left more)
 gathers-on (Err e) before after gathered all left more valid also is ok = tt
 gathers-on (Ok x) before after gathered all left more valid also is ok = record {
   written = λ rest. ok.written rest ∙ (gathers-more before gathered all more valid also is).written rest;

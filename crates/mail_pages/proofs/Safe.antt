@@ -22,8 +22,8 @@ use Rattle.mime_tree.specs.declared.choice.Shown.TheVariants.{Plain, Flowed, Htm
 use Rattle.mime_tree.specs.Best.{part_at}
 use Rattle.mime_tree.specs.Opening.{tree_of}
 use Rattle.mime_tree.specs.Tree.{PartValue}
-use Rattle.mail_pages.specs.Frame.{text, element, document_start, document_head, document_end, style_link, field_row, found_row, row_of, field_rows, title_of, message_head, mail, frame_before, part_address, part_link, name_words, part_words, part_item, is_leaf, leaf_item, part_items, part_list, frame_after, line_end}
-use Rattle.mail_pages.specs.Mail.{chosen, plain_text, text_of_part, paragraph, unread_words, plain_part, unread_part, mail_of, mail_or_none}
+use Rattle.mail_pages.specs.Frame.{text, element, document_start, document_head, document_end, style_link, field_row, row_of_field, row_of, field_rows, title_of, message_head, mail, frame_before, part_address, part_link, name_words, part_words, part_item, is_leaf, leaf_item, part_items, part_list, frame_after, line_end}
+use Rattle.mail_pages.specs.Mail.{choice, plain_text, text_of_part, paragraph, unread_words, plain_part, unread_part, mail_of, mail_or_none}
 use Rattle.mail_pages.specs.ShowPage.{shown_of, page_of}
 use Rattle.html_syntax.specs.Tokenizer.{tokens_of_bytes, replace_null}
 use Rattle.mail_pages.specs.ShowPage.{page_bytes, is_own, IsSafe}
@@ -50,7 +50,7 @@ row_frame name value =
     is_frame-append (start_tag (codes "tr") ∷ element (codes "th") name ++ element (codes "td") value) (End (codes "tr") ∷ [])
     (is_frame-append (element (codes "th") name) (element (codes "td") value) (th_frame name) (td_frame value)) refl
 
-found_frame : (name : List ℕ) (field : Option FieldValue) → is_frame (found_row name field) ≡ true
+found_frame : (name : List ℕ) (field : Option FieldValue) → is_frame (row_of_field name field) ≡ true
 found_frame name None = refl
 found_frame name (Some field) = row_frame name (decoded_of field.lines)
 
@@ -172,7 +172,7 @@ mail_or_none_is images own parts None = refl
 
 message_is : (images : Bool) (own : List ℕ → Bool) (message : List ℕ) (part : Option (List ℕ)) → list_all (is_message_token images own) (shown_of message part) ≡ true
 unfolding shown_of
-message_is images own message part = mail_or_none_is images own (tree_of message).parts (chosen (tree_of message) part)
+message_is images own message part = mail_or_none_is images own (tree_of message).parts (choice (tree_of message) part)
 
 plain_nested : (content : List ℕ) → IsNested (plain_text content)
 unfolding plain_text open_elements_after is_void message_void_elements frame_void_elements
@@ -208,7 +208,7 @@ mail_or_none_nested parts None = nothing_nested
 
 message_nested : (message : List ℕ) (part : Option (List ℕ)) → IsNested (shown_of message part)
 unfolding shown_of
-message_nested message part = mail_or_none_nested (tree_of message).parts (chosen (tree_of message) part)
+message_nested message part = mail_or_none_nested (tree_of message).parts (choice (tree_of message) part)
 
 -- the page with its message in its place
 in_place : (message : List ℕ) (part : Option (List ℕ)) → page_of message part ≡ before (header_of message).fields ++ (mail ∷ shown_of message part ++ (End (codes "div") ∷ after (tree_of message).parts))
@@ -258,7 +258,7 @@ row_loads name value =
     both_load (start_tag (codes "tr") ∷ element (codes "th") name ++ element (codes "td") value) (End (codes "tr") ∷ [])
     (both_load (element (codes "th") name) (element (codes "td") value) (th_loads name) (td_loads value)) refl
 
-found_loads : (name : List ℕ) (field : Option FieldValue) → loads (found_row name field) ≡ []
+found_loads : (name : List ℕ) (field : Option FieldValue) → loads (row_of_field name field) ≡ []
 unfolding loads
 found_loads name None = refl
 found_loads name (Some field) = row_loads name (decoded_of field.lines)
@@ -330,7 +330,7 @@ mail_or_none_loads parts None = nothing_loads
 
 shown_loads : (message : List ℕ) (part : Option (List ℕ)) → loads (shown_of message part) ≡ []
 unfolding shown_of
-shown_loads message part = mail_or_none_loads (tree_of message).parts (chosen (tree_of message) part)
+shown_loads message part = mail_or_none_loads (tree_of message).parts (choice (tree_of message) part)
 
 link_loads : (section : List ℕ) → loads (part_link section) ≡ []
 unfolding loads part_link

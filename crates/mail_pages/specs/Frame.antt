@@ -13,7 +13,7 @@ use Rattle.header_words.specs.Value.{decoded_of}
 use Rattle.mime_tree.specs.Content.{is_multipart, is_message}
 use Rattle.mime_tree.specs.Tree.{PartValue}
 
--- a text in UTF-8, as characters
+-- the characters of a text in UTF-8
 abbrev pub text : List ℕ → List Token
 text bytes = text_tokens (chars bytes)
 
@@ -50,30 +50,30 @@ document_head title = document_start ++ element (codes "title") title ++ style_l
 abbrev pub field_row : List ℕ → List ℕ → List Token
 field_row name value = start_tag (codes "tr") ∷ element (codes "th") name ++ element (codes "td") value ++ End (codes "tr") ∷ []
 
--- the row of a field of this name, where one stands
-abbrev pub found_row : List ℕ → Option FieldValue → List Token
-found_row name None = []
-found_row name (Some field) = field_row name (decoded_of field.lines)
+-- the row of a field, if there is one
+abbrev pub row_of_field : List ℕ → Option FieldValue → List Token
+row_of_field name None = []
+row_of_field name (Some field) = field_row name (decoded_of field.lines)
 
 abbrev pub row_of : List FieldValue → List ℕ → List Token
-row_of fields name = found_row name (first_of name fields)
+row_of fields name = row_of_field name (first_of name fields)
 
 abbrev pub field_rows : List FieldValue → List Token
 field_rows fields = row_of fields (codes "From") ++ row_of fields (codes "To") ++ row_of fields (codes "Cc") ++ row_of fields (codes "Date")
 
--- a title that says something
-abbrev pub filled : List ℕ → List ℕ
-filled [] = codes "(no subject)"
-filled (b ∷ bs) = b ∷ bs
+-- the title, or a text in its place if it is empty
+abbrev pub title_or_default : List ℕ → List ℕ
+title_or_default [] = codes "(no subject)"
+title_or_default (b ∷ bs) = b ∷ bs
 
-abbrev pub found_title : Option FieldValue → List ℕ
-found_title None = codes "(no subject)"
-found_title (Some field) = filled (decoded_of field.lines)
+abbrev pub title_of_field : Option FieldValue → List ℕ
+title_of_field None = codes "(no subject)"
+title_of_field (Some field) = title_or_default (decoded_of field.lines)
 
 abbrev pub title_of : List FieldValue → List ℕ
-title_of fields = found_title (first_of (codes "Subject") fields)
+title_of fields = title_of_field (first_of (codes "Subject") fields)
 
--- what stands in the body before the message
+-- the beginning of the body, up to the message
 abbrev pub message_head : List FieldValue → List Token
 message_head fields =
     start_tag (codes "body") ∷ element (codes "h1") (title_of fields)
@@ -83,7 +83,7 @@ message_head fields =
 abbrev pub mail : Token
 mail = start_tag_with (codes "div") (codes "class") (codes "mail")
 
--- all that stands before the message's own tokens
+-- all that comes before the message's own tokens
 unfoldable pub frame_before : List FieldValue → List Token
 frame_before fields = document_head (title_of fields) ++ message_head fields ++ mail ∷ []
 
@@ -106,14 +106,14 @@ abbrev pub name_words : List ℕ → List Token
 name_words [] = []
 name_words (b ∷ bs) = text (codes " ") ++ text (b ∷ bs)
 
--- its type, its name if it has one, and how many bytes it has as encoded
+-- the type of the part, its name if it has one, and its encoded size in bytes
 unfoldable pub part_words : PartValue → List Token
 part_words p = text (codes " ") ++ text p.mime ++ name_words p.name ++ text (codes " ") ++ text (decimal (length p.bytes))
 
 abbrev pub part_item : PartValue → List Token
 part_item p = start_tag (codes "li") ∷ part_link p.section ++ part_words p ++ End (codes "li") ∷ []
 
--- a part that holds parts is none of the list
+-- a part without children (only these are listed)
 abbrev pub is_leaf : PartValue → Bool
 is_leaf p = not (is_multipart p.mime || is_message p.mime)
 
@@ -126,10 +126,10 @@ part_items parts = flat_map leaf_item parts
 abbrev pub part_list : List PartValue → List Token
 part_list parts = start_tag_with (codes "ul") (codes "class") (codes "parts") ∷ part_items parts ++ End (codes "ul") ∷ []
 
--- all that stands after the message's own tokens
+-- all that comes after the message's own tokens
 unfoldable pub frame_after : List PartValue → List Token
 frame_after parts = End (codes "div") ∷ line_end ∷ part_list parts ++ document_end
 
--- a page with more tokens, and these elements open
+-- the page with these tokens appended and these elements open
 abbrev pub with_tokens : Page → List Token → List Name → Page
 with_tokens page tokens opened = record { written = page.written ++ tokens; opened = opened }

@@ -1,4 +1,4 @@
--- What is shown of a message, and the tokens that show it.
+-- What is shown of a message, and its tokens.
 use Rattle.std.specs.Prelude.{ℕ, Bool, true, false, ◌||◌, List, [], ◌∷◌, ◌++◌, if◌then◌else◌, codes, bytes_eq, Option, Some, None, is_some, unwrap_or, option_and_then}
 use Rattle.html_syntax.specs.Token.{Token}
 use Rattle.html_syntax.specs.Token.Token.{End}
@@ -11,7 +11,7 @@ use Rattle.mime_tree.specs.declared.choice.Shown.{Shown}
 use Rattle.mime_tree.specs.declared.choice.Shown.TheVariants.{Plain, Flowed, Html, Unread, Nothing}
 use Rattle.mime_tree.specs.Best.{best_of, part_at, shown_as, is_html}
 use Rattle.mime_tree.specs.Tree.{PartValue, TreeValue}
-use Rattle.mail_pages.specs.Text.{line_feeds}
+use Rattle.mail_pages.specs.Text.{with_line_feeds}
 use Rattle.mail_pages.specs.Frame.{text, element, line_end}
 
 -- ---- which part
@@ -25,15 +25,15 @@ abbrev pub text_shown_as : PartValue → Shown
 text_shown_as p = if is_some (charset_named p.charset) then shown_as p else Unread p.section
 
 -- how a part that was asked for is shown, attached or not, and wherever it is: None if it is no text
-abbrev pub asked_as : PartValue → Option Shown
-asked_as p = if is_text_part p then Some (text_shown_as p) else None
+abbrev pub shown_if_requested : PartValue → Option Shown
+shown_if_requested p = if is_text_part p then Some (text_shown_as p) else None
 
--- what is shown: of the part that was asked for, else the best
-abbrev pub chosen : TreeValue → Option (List ℕ) → Option Shown
-chosen tree None = Some (best_of tree)
-chosen tree (Some section) = option_and_then asked_as (part_at section tree.parts)
+-- what is shown: the requested text, else the best part
+abbrev pub choice : TreeValue → Option (List ℕ) → Option Shown
+choice tree None = Some (best_of tree)
+choice tree (Some section) = option_and_then shown_if_requested (part_at section tree.parts)
 
--- what isn't shown yet: pages, and flowed text
+-- kinds that aren't shown yet: HTML and flowed text
 abbrev pub is_unbuilt : Shown → Bool
 is_unbuilt (Plain section) = false
 is_unbuilt (Flowed section del_sp) = true
@@ -43,9 +43,9 @@ is_unbuilt Nothing = false
 
 -- ---- its tokens
 
--- the text of a part, in UTF-8: its bytes decoded and read by its charset, with CR LF and lone CR as LF
+-- the text of a part, in UTF-8: decoded by its coding and its charset, with CR LF and lone CR as LF
 abbrev pub text_of_part : PartValue → List ℕ
-text_of_part p = line_feeds (text_in (unwrap_or (charset_named p.charset) Utf8) (decoded p.coding p.bytes))
+text_of_part p = with_line_feeds (text_in (unwrap_or (charset_named p.charset) Utf8) (decoded p.coding p.bytes))
 
 -- a plain text
 unfoldable pub plain_text : List ℕ → List Token
@@ -66,7 +66,7 @@ abbrev pub unread_part : Option PartValue → List Token
 unread_part (Some p) = paragraph (unread_words p)
 unread_part None = []
 
--- the tokens that show it
+-- the tokens of what is shown
 unfoldable pub mail_of : List PartValue → Shown → List Token
 mail_of parts (Plain section) = plain_part (part_at section parts)
 mail_of parts (Unread section) = unread_part (part_at section parts)
@@ -74,7 +74,7 @@ mail_of parts Nothing = paragraph (codes "No text to show.")
 mail_of parts (Flowed section del_sp) = []
 mail_of parts (Html section) = []
 
--- and of nothing, where no part was found
+-- no tokens if nothing is shown
 abbrev pub mail_or_none : List PartValue → Option Shown → List Token
 mail_or_none parts (Some shown) = mail_of parts shown
 mail_or_none parts None = []

@@ -12,11 +12,11 @@ use Rattle.mime_tree.specs.declared.choice.Shown.{Shown}
 use Rattle.mime_tree.specs.Opening.{tree_of}
 use Rattle.mime_tree.specs.Tree.{PartValue}
 use Rattle.mail_pages.specs.Frame.{frame_before, frame_after, part_address, is_leaf}
-use Rattle.mail_pages.specs.Mail.{chosen, mail_or_none, is_unbuilt}
+use Rattle.mail_pages.specs.Mail.{choice, mail_or_none, is_unbuilt}
 
--- what is shown of a message: of the part of a section, where one was asked for
+-- the tokens of what is shown of a message
 unfoldable pub shown_of : List ℕ → Option (List ℕ) → List Token
-shown_of message part = mail_or_none (tree_of message).parts (chosen (tree_of message) part)
+shown_of message part = mail_or_none (tree_of message).parts (choice (tree_of message) part)
 
 -- the tokens of the page of a message
 unfoldable pub page_of : List ℕ → Option (List ℕ) → List Token
@@ -26,21 +26,21 @@ page_of message part = frame_before (header_of message).fields ++ shown_of messa
 unfoldable pub page_bytes : List ℕ → Option (List ℕ) → List ℕ
 page_bytes message part = encode_utf8_all (spell (page_of message part))
 
--- the addresses of a shown message's own parts: those of the leaves of its tree
+-- the addresses of the message's own parts: those of the leaves of its tree
 abbrev pub is_own : List ℕ → List ℕ → Bool
 is_own message address = list_any (λ (p : PartValue). is_leaf p && same (chars (part_address p.section)) address) (tree_of message).parts
 
--- What a browser makes of the page of a message: it reads as the page's tokens, all of them are allowed, in elements that are
--- nested, and of itself the browser loads the style sheet alone. No picture of the web was asked for.
+-- What a browser makes of the page: it reads the page's tokens, all of them are allowed and nested, and of itself it loads the
+-- style sheet alone. Remote pictures aren't allowed.
 pub record IsSafe (message : List ℕ) (part : Option (List ℕ)) : Type 0 where
   pub reads : tokens_of_bytes (page_bytes message part) ≡ page_of message part
   pub allowed : IsAllowed (page_of message part) false (is_own message)
   pub nested : IsNested (page_of message part)
   pub loads_sheet : loads (page_of message part) ≡ codes "/site.css" ∷ []
 
--- what the words ask for of a message: something that is shown, something that isn't shown yet, or no such part
+-- what is shown if this part, or none, is requested
 abbrev pub shown_at : List ℕ → Option (List ℕ) → Option Shown
-shown_at message part = chosen (tree_of message) part
+shown_at message part = choice (tree_of message) part
 
 abbrev pub IsShown : List ℕ → Option (List ℕ) → Type 0
 IsShown message part = option_map is_unbuilt (shown_at message part) ≡ Some false

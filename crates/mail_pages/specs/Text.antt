@@ -1,19 +1,19 @@
--- The text of a plain message.
+-- Line ends of a text.
 use Rattle.std.specs.Prelude.{ℕ, Bool, ◌==◌, if◌then◌else◌, List, [], ◌∷◌, ◌++◌}
 use Rattle.std.specs.List.{slice_split, flat_map}
 
-abbrev pub is_return : ℕ → Bool
-is_return b = b == 13
+abbrev pub is_carriage_return : ℕ → Bool
+is_carriage_return b = b == 13
 
-abbrev pub without_line_feed : List ℕ → List ℕ
-without_line_feed [] = []
-without_line_feed (b ∷ bs) = if b == 10 then bs else b ∷ bs
+abbrev pub skip_line_feed : List ℕ → List ℕ
+skip_line_feed [] = []
+skip_line_feed (b ∷ bs) = if b == 10 then bs else b ∷ bs
 
--- the pieces between the CRs, each after the first on a line of its own; an LF directly after a CR is one with it
-abbrev pub on_lines : List (List ℕ) → List ℕ
-on_lines [] = []
-on_lines (first ∷ more) = first ++ flat_map (λ piece. 10 ∷ without_line_feed piece) more
+-- the pieces between carriage returns, each on a line of its own; a line feed directly after a carriage return belongs to it
+abbrev pub join_lines : List (List ℕ) → List ℕ
+join_lines [] = []
+join_lines (first ∷ more) = first ++ flat_map (λ piece. 10 ∷ skip_line_feed piece) more
 
 -- a text in UTF-8 with CR LF and lone CR as LF
-unfoldable pub line_feeds : List ℕ → List ℕ
-line_feeds text = on_lines (slice_split is_return text)
+unfoldable pub with_line_feeds : List ℕ → List ℕ
+with_line_feeds text = join_lines (slice_split is_carriage_return text)

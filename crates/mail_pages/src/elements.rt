@@ -1,4 +1,4 @@
-//! Elements of a page, each by one call.
+//! Elements of a page, each written by one call.
 ghost use Rattle.std.specs.Prelude.{◌≡◌, [], ◌∷◌, chars, OnOk, false};
 ghost use Rattle.html_syntax.specs.Token.Token.{Start};
 ghost use Rattle.page_writer.specs.Page.{MayStart};
@@ -12,7 +12,7 @@ use html_syntax::Attributes;
 use page_writer::{Memory, PageOut};
 use std::alloc::Global;
 
-/// Opens an element without attributes.
+/// Opens an element that has no attribute.
 pub fn open(alloc: Global, out: &mut PageOut, name: &str) -> Result<(), Memory>
     requires { MayStart out.old.opened (chars name.now) [] }
     ensures { OnOk result (out.new ≡ with_token out.old (start_tag (chars name.now))) }
@@ -53,7 +53,7 @@ pub fn open_with_two(
     out.start(alloc, name, &attributes)
 }
 
-/// An element with a text in it.
+/// Writes an element with a text in it.
 pub fn write_element(
     alloc: Global,
     out: &mut PageOut,

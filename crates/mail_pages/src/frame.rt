@@ -1,4 +1,4 @@
-//! The frame of a page: all that stands before and after a message.
+//! The frame of a page: what comes before and after the message.
 ghost use Rattle.std.specs.Prelude.{◌≡◌, ℕ, ◌<◌, ◌≤◌, List, [], ◌∷◌, ◌++◌, codes, chars, OnOk, false, IfOk, length, Some, IsTrue, string_bytes};
 ghost use Rattle.html_syntax.specs.Token.Token.{Start, End};
 ghost use Rattle.html_syntax.specs.Tokenizer.{tokens_of_bytes};
@@ -10,7 +10,7 @@ ghost use Rattle.html_rules.specs.Tokens.{start_tag, start_tag_with};
 ghost use Rattle.html_rules.specs.Tables.{is_void};
 ghost use Rattle.header_words.specs.Fields.{header_of};
 ghost use Rattle.header_words.specs.Value.{decoded_of};
-ghost use Rattle.mail_pages.specs.Frame.{with_tokens, element, head_start, document_start, document_head, document_end, style_link, field_row, row_of, field_rows, title_of, filled, message_head, frame_before, frame_after};
+ghost use Rattle.mail_pages.specs.Frame.{with_tokens, element, head_start, document_start, document_head, document_end, style_link, field_row, row_of, field_rows, title_of, title_or_default, message_head, frame_before, frame_after};
 
 use crate::elements::{open, open_with, open_with_two, write_element};
 use crate::parts::write_parts;
@@ -19,7 +19,7 @@ use mime_tree::Tree;
 use page_writer::{Memory, PageOut};
 use std::alloc::Global;
 
-/// The document's beginning, up to its title.
+/// Writes the beginning of the document, up to its title.
 #[tactic(auto, unfolding(page_writer::specs::Writing::literals))]
 fn open_document(alloc: Global, out: &mut PageOut) -> Result<(), Memory>
     requires { out.old.opened ≡ [] }
@@ -40,7 +40,7 @@ fn open_head(alloc: Global, out: &mut PageOut) -> Result<(), Memory>
     open_with(alloc, out, "meta", "charset", "utf-8")
 }
 
-/// The document's head.
+/// Writes the head of the document.
 #[tactic(auto, unfolding(page_writer::specs::Writing::literals))]
 fn write_document_head(alloc: Global, out: &mut PageOut, title: &str) -> Result<(), Memory>
     requires { out.old.opened ≡ [] }
@@ -67,7 +67,7 @@ fn write_style_link(alloc: Global, out: &mut PageOut) -> Result<(), Memory>
     )
 }
 
-/// The row of the first field of a name, where one stands.
+/// Writes the row of the first field of a name, if the message has one.
 fn write_row(
     alloc: Global,
     out: &mut PageOut,
@@ -110,7 +110,7 @@ fn write_rows(alloc: Global, out: &mut PageOut, fields: &Fields<'_>) -> Result<(
     write_row(alloc, out, fields, "Date")
 }
 
-/// What stands in the body before the message.
+/// Writes the beginning of the body, up to the message.
 #[tactic(auto, unfolding(page_writer::specs::Writing::literals))]
 fn write_message_head(
     alloc: Global,
@@ -131,7 +131,7 @@ fn write_message_head(
     out.chars("\n")
 }
 
-/// All that stands before the message's own tokens.
+/// Writes all that comes before the message's own tokens.
 #[tactic(auto, unfolding(page_writer::specs::Writing::literals, crate::specs::Frame::frame_before))]
 pub fn write_before(alloc: Global, out: &mut PageOut, fields: &Fields<'_>) -> Result<(), Memory>
     requires { out.old.opened ≡ [] }
@@ -154,7 +154,7 @@ fn title(alloc: Global, fields: &Fields<'_>) -> Result<String, Memory>
 }
 
 fn subject(alloc: Global, field: &Field<'_>) -> Result<String, Memory>
-    ensures { IfOk result (λ title. string_bytes title ≡ filled (decoded_of field.now.lines)) }
+    ensures { IfOk result (λ title. string_bytes title ≡ title_or_default (decoded_of field.now.lines)) }
 {
     let subject = decoded(alloc, field)?;
     if subject.is_empty() {
@@ -164,7 +164,7 @@ fn subject(alloc: Global, field: &Field<'_>) -> Result<String, Memory>
     }
 }
 
-/// All that stands after the message's own tokens.
+/// Writes all that comes after the message's own tokens.
 #[tactic(auto, unfolding(page_writer::specs::Writing::literals, crate::specs::Frame::frame_after))]
 pub fn write_after(alloc: Global, out: &mut PageOut, tree: &Tree<'_>) -> Result<(), Memory>
     requires { out.old.opened ≡ codes "div" ∷ codes "body" ∷ codes "html" ∷ [] }

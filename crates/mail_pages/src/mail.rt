@@ -1,8 +1,8 @@
-//! What is shown of a message.
+//! The displayed part of a message.
 ghost use Rattle.std.specs.Prelude.{◌≡◌, ◌++◌, codes, IfOk, OnOk, IsTrue, false, string_bytes};
 ghost use Rattle.page_writer.specs.Page.{takes_tags};
 ghost use Rattle.mail_pages.specs.Frame.{with_tokens, text};
-ghost use Rattle.mail_pages.specs.Mail.{asked_as, is_text_part, text_shown_as, chosen, is_unbuilt, plain_text, text_of_part, unread_words, paragraph, mail_of};
+ghost use Rattle.mail_pages.specs.Mail.{shown_if_requested, is_text_part, text_shown_as, choice, is_unbuilt, plain_text, text_of_part, unread_words, paragraph, mail_of};
 
 use crate::elements::{open, write_element};
 use crate::text::write_body;
@@ -11,10 +11,10 @@ use page_writer::{Memory, PageOut};
 use std::alloc::Global;
 use transfer_codings::{Charset, charset_of, decode};
 
-/// What is shown: of the part of a section, where one was asked for, else the best. Nothing where there is no text and no page of
-/// that section.
+/// Chooses what is shown: the text of a section if one was requested, else the best part. `None` means that no text has that
+/// section.
 pub fn choose(tree: &Tree<'_>, section: &Option<Section>) -> Option<Shown>
-    ensures { result ≡ chosen tree.now section.now }
+    ensures { result ≡ choice tree.now section.now }
 {
     match section {
         Some(section) => match part(tree, section) {
@@ -26,7 +26,7 @@ pub fn choose(tree: &Tree<'_>, section: &Option<Section>) -> Option<Shown>
 }
 
 fn asked(part: &Part<'_>) -> Option<Shown>
-    ensures { result ≡ asked_as part.now }
+    ensures { result ≡ shown_if_requested part.now }
 {
     if is_text(part) {
         Some(text_shown_as(part))
@@ -50,7 +50,7 @@ fn text_shown_as(part: &Part<'_>) -> Shown
     }
 }
 
-/// Whether something of this kind isn't shown yet.
+/// Whether this kind isn't shown yet.
 pub fn is_unbuilt(shown: &Shown) -> bool
     ensures { result ≡ is_unbuilt shown.now }
 {
@@ -96,7 +96,7 @@ fn write_plain(alloc: Global, out: &mut PageOut, part: &Part<'_>) -> Result<(), 
     out.end()
 }
 
-/// Writes the text of a part. Bytes that stand as they are need no copy.
+/// Writes the text of a part. Bytes of no coding are read in place.
 fn write_text(alloc: Global, out: &mut PageOut, part: &Part<'_>) -> Result<(), Memory>
     ensures { OnOk result (out.new ≡ with_tokens out.old (text (text_of_part part.now)) out.old.opened) }
 {

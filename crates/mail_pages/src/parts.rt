@@ -10,7 +10,7 @@ use mime_tree::{Part, Section};
 use page_writer::{Memory, PageOut};
 use std::alloc::Global;
 
-/// The list of the parts that hold no parts, each with a link to its bytes.
+/// Writes the list of the leaves, each with a link to its bytes.
 #[tactic(auto, unfolding(page_writer::specs::Writing::literals))]
 pub fn write_parts(alloc: Global, out: &mut PageOut, parts: &[Part<'_>]) -> Result<(), Memory>
     requires { IsTrue (takes_tags out.old.opened) }
@@ -53,7 +53,7 @@ fn write_item(alloc: Global, out: &mut PageOut, part: &Part<'_>) -> Result<(), M
     out.end()
 }
 
-/// A link to the bytes of a part.
+/// Writes a link to the bytes of a part.
 #[tactic(auto, unfolding(crate::specs::Frame::part_link))]
 fn write_part_link(alloc: Global, out: &mut PageOut, section: &Section) -> Result<(), Memory>
     requires { IsTrue (takes_tags out.old.opened) }
@@ -74,7 +74,7 @@ fn write_link(alloc: Global, out: &mut PageOut, address: &str, content: &str) ->
     out.end()
 }
 
-/// The address of the part whose section is spelled so.
+/// The address of the part whose section has this spelling.
 fn address(alloc: Global, spelling: &str) -> Result<String, Memory>
     ensures { IfOk result (λ address. string_bytes address ≡ codes "/part/0/0/" ++ spelling.now ++ codes "?f=") }
 {
@@ -84,7 +84,7 @@ fn address(alloc: Global, spelling: &str) -> Result<String, Memory>
     Ok(address)
 }
 
-/// The type of a part, its name if it has one, and its size in bytes, as encoded.
+/// Writes the type of a part, its name if it has one, and its encoded size in bytes.
 #[tactic(auto, unfolding(page_writer::specs::Writing::literals, crate::specs::Frame::part_words))]
 fn write_words(out: &mut PageOut, part: &Part<'_>) -> Result<(), Memory>
     ensures { OnOk result (out.new ≡ with_tokens out.old (part_words part.now) out.old.opened) }

@@ -1,4 +1,4 @@
-//! The page of a message that a stranger sent.
+//! The page of a message.
 ghost use Rattle.std.specs.Prelude.{◌≡◌, IfOk, OnOk, IsErrOf};
 ghost use Rattle.mail_pages.specs.ShowPage.{page_bytes, IsSafe, IsShown, IsUnbuilt, IsMissing};
 
@@ -8,10 +8,12 @@ use mime_tree::{Section, tree};
 use page_writer::PageBytes;
 use std::alloc::{AllocError, Global};
 
-/// Why a message has no page.
+/// The reason that a message has no page.
 #[derive(Clone, Copy)]
 pub enum PageFault {
+    /// The part is of a kind that isn't shown yet.
     NotBuilt,
+    /// No text has that section.
     NoSuchPart,
     Memory,
 }
@@ -27,17 +29,17 @@ impl From<AllocError> for PageFault {
     }
 }
 
-/// The page of a message, where what is asked for is shown.
+/// The page of a message: with the part of a section, or with the best part (`best` of mime_tree).
 pub fn show_page(
     alloc: Global,
     message: &[u8],
     part: &Option<Section>,
 ) -> Result<PageBytes, PageFault>
-    ensures shown { OnOk result (IsShown message.now part.now) }
-    ensures page { IfOk result (λ page. page ≡ page_bytes message.now part.now) }
-    ensures safe { OnOk result (IsSafe message.now part.now) }
-    ensures unbuilt { IsErrOf result PageFault.NotBuilt → IsUnbuilt message.now part.now }
-    ensures missing { IsErrOf result PageFault.NoSuchPart → IsMissing message.now part.now }
+    ensures is_shown { OnOk result (IsShown message.now part.now) }
+    ensures equals { IfOk result (λ page. page ≡ page_bytes message.now part.now) }
+    ensures is_safe { OnOk result (IsSafe message.now part.now) }
+    ensures only_if_unbuilt { IsErrOf result PageFault.NotBuilt → IsUnbuilt message.now part.now }
+    ensures only_if_missing { IsErrOf result PageFault.NoSuchPart → IsMissing message.now part.now }
 {
     let tree = tree(alloc, message)?;
     let Some(shown) = choose(&tree, part) else {

@@ -9,7 +9,7 @@ use Rattle.std.proofs.lemmas.Bool.{ne_eqb}
 use Rattle.std.proofs.lemmas.List.Elements.{All-take}
 use Rattle.std.proofs.lemmas.List.{length-map, map-append, get_or-map}
 use Rattle.std.proofs.lemmas.List.Splits.{slice_split_at, slice_split_none}
-use Rattle.mail_values.specs.Section.{IsNumber, IsSection, spelling, numbers_of, one_more}
+use Rattle.mail_values.specs.Section.{IsNumber, IsSection, spelling, numbers_of, spelling_with}
 
 -- what spells a number parses as it
 pub parsed : {E : Type 0} (n : ℕ) (bs : List ℕ) (r : Result ℕ E) → IsNumber n → decimal n ≡ bs → ParsesUnsigned 16 10 bs r → r ≡ Ok n
@@ -66,7 +66,7 @@ pub record IsPiece (numbers : List ℕ) (i : ℕ) (piece : List ℕ) : Type 0 wh
 
 pub piece_at : (numbers text piece : List ℕ) (i : ℕ) → IsSection numbers → spelling numbers ≡ text → i < length (slice_split (λ b. eqb b 46) text) → piece ≡ get_or (slice_split (λ b. eqb b 46) text) i piece → IsPiece numbers i piece
 piece_at numbers text piece i section e h at =
-    let some : 0 < length numbers = let q : 1 ≤ length numbers = section.some in omega arith in
+    let some : 0 < length numbers = let q : 1 ≤ length numbers = section.nonempty in omega arith in
     let pieces : slice_split (λ b. eqb b 46) text ≡ map decimal numbers = ap (slice_split (λ b. eqb b 46)) (sym e) ∙ slice_split_joined numbers some section.each in
     let within : i < length numbers = omega (arith, ap length pieces, length-map numbers decimal) in
     record {
@@ -95,7 +95,7 @@ one_further {A} section longer numbers yielded n piece l s e h =
 -- as many pieces as numbers
 pieces_len : (numbers text : List ℕ) → IsSection numbers → spelling numbers ≡ text → length (slice_split (λ b. eqb b 46) text) ≡ length numbers
 pieces_len numbers text section e =
-    let some : 0 < length numbers = let q : 1 ≤ length numbers = section.some in omega arith in
+    let some : 0 < length numbers = let q : 1 ≤ length numbers = section.nonempty in omega arith in
     ap (λ t. length (slice_split (λ b. eqb b 46) t)) (sym e) ∙ ap length (slice_split_joined numbers some section.each) ∙ length-map numbers decimal
 
 no_numbers : (numbers : List ℕ) → [] ≡ numbers → 0 < length numbers → None ≡ Some numbers
@@ -109,28 +109,28 @@ whole (Some s) numbers e some = ap Some e
 -- all pieces read
 pub all_read : (section : Option (List ℕ)) (numbers text : List ℕ) (n : ℕ) → IsSection numbers → spelling numbers ≡ text → numbers_of section ≡ take n numbers → n ≡ length (slice_split (λ b. eqb b 46) text) → section ≡ Some numbers
 all_read section numbers text n is e read size =
-    let some : 0 < length numbers = let q : 1 ≤ length numbers = is.some in omega arith in
+    let some : 0 < length numbers = let q : 1 ≤ length numbers = is.nonempty in omega arith in
     whole section numbers (read ∙ ap (λ k. take k numbers) (size ∙ pieces_len numbers text is e) ∙ take-length numbers) some
 
 joined_some : (x : List ℕ) (xs : List (List ℕ)) → 0 < length x → 0 < length (join_with_byte 46 (x ∷ xs))
 joined_some x [] some = some
 joined_some x (y ∷ ys) some = omega (arith, length-append {A = ℕ})
 
-after_some : (text : List ℕ) (n : ℕ) → 0 < length text → one_more text n ≡ text ++ 46 ∷ decimal n
+after_some : (text : List ℕ) (n : ℕ) → 0 < length text → spelling_with text n ≡ text ++ 46 ∷ decimal n
 after_some [] n some = absurd (omega arith)
 after_some (b ∷ bs) n some = refl
 
 -- a number more
-pub spelled_more : (numbers : List ℕ) (n : ℕ) → All IsNumber numbers → one_more (spelling numbers) n ≡ spelling (numbers ++ n ∷ [])
+pub spelled_more : (numbers : List ℕ) (n : ℕ) → All IsNumber numbers → spelling_with (spelling numbers) n ≡ spelling (numbers ++ n ∷ [])
 spelled_more [] n each = refl
 spelled_more (m ∷ more) n each =
     let some : 0 < length (spelling (m ∷ more)) = joined_some (decimal m) (map decimal more) (decimal_nonempty m (number_small m (each 0 0 (omega arith)))) in
     after_some (spelling (m ∷ more)) n some ∙ sym (joined_more 46 (map decimal (m ∷ more)) (decimal n) (omega arith)) ∙ ap (join_with_byte 46) (sym (map-append decimal (m ∷ more) (n ∷ [])))
 
 -- the next number of a section
-pub spelled_next : (items self text longer : List ℕ) (i : ℕ) → items ≡ self → IsSection self → i < length items → text ≡ spelling (take i items) → longer ≡ one_more text (get_or items i 0) → longer ≡ spelling (take (i + 1) items)
+pub spelled_next : (items self text longer : List ℕ) (i : ℕ) → items ≡ self → IsSection self → i < length items → text ≡ spelling (take i items) → longer ≡ spelling_with text (get_or items i 0) → longer ≡ spelling (take (i + 1) items)
 spelled_next items self text longer i same section h before after =
     let each : All IsNumber items = subst (λ (l : List ℕ). All IsNumber l) (sym same) section.each in
     let first : All IsNumber (take i items) = All-take IsNumber i items each in
-    after ∙ ap (λ t. one_more t (get_or items i 0)) before ∙ spelled_more (take i items) (get_or items i 0) first
+    after ∙ ap (λ t. spelling_with t (get_or items i 0)) before ∙ spelled_more (take i items) (get_or items i 0) first
     ∙ ap spelling (sym (take-suc items i 0 h)) ∙ ap (λ k. spelling (take k items)) (let q : suc i ≡ i + 1 = omega arith in q)

@@ -1,10 +1,10 @@
-//! Owned texts and bytes that a contract sees as lists.
+//! Owned texts and byte strings that contracts see as lists.
 ghost use Rattle.std.specs.Prelude.{◌≡◌, ◌++◌, ◌∷◌, [], IfOk, OnOk, OnErr, length, string_bytes};
 
 use std::alloc::{AllocError, Global};
 use std::marker::Model;
 
-/// Bytes, seen as their list. Made from a `Vec` and turned into one without taking memory.
+/// A byte string, seen as its list. It converts from and to a `Vec` without taking memory.
 #[derive(Drop)]
 pub struct Bytes {
     items: Vec<u8>,
@@ -46,19 +46,19 @@ impl Bytes {
         &self.items
     }
 
-    /// Adds a byte at the end.
+    /// Appends a byte.
     pub fn push(&mut self, byte: u8) -> Result<(), AllocError>
-        ensures ok { OnOk result (self.new ≡ self.old ++ byte ∷ []) }
-        ensures err { OnErr result (self.new ≡ self.old) }
+        ensures appends { OnOk result (self.new ≡ self.old ++ byte ∷ []) }
+        ensures unchanged_on_err { OnErr result (self.new ≡ self.old) }
     {
         self.items.push(byte)?;
         Ok(())
     }
 
-    /// Adds bytes at the end.
+    /// Appends bytes.
     pub fn extend_from_slice(&mut self, more: &[u8]) -> Result<(), AllocError>
-        ensures ok { OnOk result (self.new ≡ self.old ++ more.now) }
-        ensures err { OnErr result (self.new ≡ self.old) }
+        ensures appends { OnOk result (self.new ≡ self.old ++ more.now) }
+        ensures unchanged_on_err { OnErr result (self.new ≡ self.old) }
     {
         self.items.extend_from_slice(more)
     }
@@ -84,7 +84,7 @@ impl Eq for Bytes {
     ghost laws = { nat_list_eq_equiv };
 }
 
-/// A text, seen as its bytes in UTF-8. Made from a `String` and turned into one without taking memory.
+/// A text, seen as its bytes in UTF-8. It converts from and to a `String` without taking memory.
 #[derive(Drop)]
 pub struct Text {
     text: String,
@@ -147,7 +147,7 @@ impl Eq for Text {
     ghost laws = { nat_list_eq_equiv };
 }
 
-/// A list of byte strings, seen as the list of their lists.
+/// A list of byte strings, seen as the list of their lists. It converts from and to a `Vec` without taking memory.
 #[derive(Drop)]
 pub struct Words {
     items: Vec<Bytes>,
@@ -189,10 +189,10 @@ impl Words {
         &self.items
     }
 
-    /// Adds a word at the end.
+    /// Appends a byte string.
     pub fn push(&mut self, word: Bytes) -> Result<(), AllocError>
-        ensures ok { OnOk result (self.new ≡ self.old ++ word ∷ []) }
-        ensures err { OnErr result (self.new ≡ self.old) }
+        ensures appends { OnOk result (self.new ≡ self.old ++ word ∷ []) }
+        ensures unchanged_on_err { OnErr result (self.new ≡ self.old) }
     {
         self.items.push(word)?;
         Ok(())

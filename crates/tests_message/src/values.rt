@@ -10,7 +10,7 @@ fn reads_and_spells_sections(rt: HostRuntime) -> Result<(), Fail> {
     }
     let long = format!(in alloc; "{full}.1")?;
     for text in ["1", "2.1", "65535.1.10", full.as_str()] {
-        let section = Section::read(text).ok_or("a section")?;
+        let section = Section::parse(text).ok_or("a section")?;
         let spelling = section.spell(alloc)?;
         assert_eq!(rt; spelling.as_str(), text);
     }
@@ -29,7 +29,7 @@ fn reads_and_spells_sections(rt: HostRuntime) -> Result<(), Fail> {
         "99999999999999999999",
         long.as_str(),
     ] {
-        assert!(rt; Section::read(text).is_none(), "{text}");
+        assert!(rt; Section::parse(text).is_none(), "{text}");
     }
     Ok(())
 }

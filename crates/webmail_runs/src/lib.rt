@@ -1,9 +1,9 @@
 //! The runs of the program `webmail`, as functions over sources and sinks.
 #![tactic(auto)]
 
-mod asking;
 mod show;
 mod status;
+mod words;
 
 pub use show::{LIMIT, run_show};
 pub use status::{

@@ -1,59 +1,59 @@
-//! The run of `show`: it reads a message to its end, and then writes its page.
+//! The run of `show`.
 ghost use Rattle.std.specs.Prelude.{◌≡◌, ◌≢◌, ◌⊎◌, map, string_bytes};
 ghost use Rattle.std.specs.Io.KnownBytes.{Keeps, Appends};
 ghost use Rattle.mail_io.specs.Causes.{Rose};
 ghost use Rattle.mail_io.specs.Stream.{ReadsPast, ReadsSome, WritesSome};
 ghost use Rattle.mail_pages.specs.ShowPage.{page_bytes, IsSafe, IsShown, IsUnbuilt, IsMissing};
-ghost use Rattle.webmail_runs.specs.Run.{AsksNothing, Reads, IsWritten, IsBegun, RefusesLong};
+ghost use Rattle.webmail_runs.specs.Run.{RequestsNothing, ReadsRequest, IsWritten, IsBegun, RefusesLong};
 
-use crate::asking::read_words;
 use crate::status::{
     DONE, NO_SUCH_PART, NOT_BUILT, OUT_OF_MEMORY, READ_FAULT, Status, TOO_LONG, WRITE_FAULT,
     WRONG_WORDS,
 };
+use crate::words::parse_words;
 use mail_io::{InputFault, Sink, Source, read_to_end};
 use mail_pages::{PageFault, Section, WRITE_ROOM, show_page, write_page};
 use std::alloc::Global;
 
-/// The most bytes of a message.
+/// The greatest length of a message in bytes.
 pub const LIMIT: usize = 26_214_400;
 
 /// Reads a message to its end, and writes its page.
 ///
-/// The words are those after the program's name. What is wrong with them is answered before anything is read, and what is
-/// wrong with the message before anything is written.
+/// `words` are those after the program's name. Wrong words are refused before anything is read, and a message that has no page
+/// before anything is written.
 pub fn run_show<R: Source, W: Sink>(
     alloc: Global,
     words: &[String],
     source: &mut R,
     sink: &mut W,
 ) -> Status
-    ensures wrong_words { AsksNothing (map string_bytes words.now) → result ≡ WRONG_WORDS }
-    ensures words_only { result ≡ WRONG_WORDS → AsksNothing (map string_bytes words.now) }
-    ensures unread { result ≡ WRONG_WORDS → Keeps (R.left source.old) (R.left source.new) }
+    ensures refuses_other_words { RequestsNothing (map string_bytes words.now) → result ≡ WRONG_WORDS }
+    ensures refuses_only_other_words { result ≡ WRONG_WORDS → RequestsNothing (map string_bytes words.now) }
+    ensures reads_nothing_then { result ≡ WRONG_WORDS → Keeps (R.left source.old) (R.left source.new) }
 
-    // the headline: what was written is the page of what was read, and no browser makes anything else of it
-    ensures done { result ≡ DONE → Reads (map string_bytes words.now) LIMIT (R.left source.old) (R.left source.new) (IsWritten (W.taken sink.old) (W.taken sink.new)) }
-    ensures part { result ≡ WRITE_FAULT → Reads (map string_bytes words.now) LIMIT (R.left source.old) (R.left source.new) (IsBegun (W.taken sink.old) (W.taken sink.new)) }
+    // the headline: the page of the message that was read is written, and a browser makes nothing else of it
+    ensures writes_safe_page { result ≡ DONE → ReadsRequest (map string_bytes words.now) LIMIT (R.left source.old) (R.left source.new) (IsWritten (W.taken sink.old) (W.taken sink.new)) }
+    ensures writes_prefix { result ≡ WRITE_FAULT → ReadsRequest (map string_bytes words.now) LIMIT (R.left source.old) (R.left source.new) (IsBegun (W.taken sink.old) (W.taken sink.new)) }
 
-    ensures unbuilt { result ≡ NOT_BUILT → Reads (map string_bytes words.now) LIMIT (R.left source.old) (R.left source.new) IsUnbuilt }
-    ensures missing { result ≡ NO_SUCH_PART → Reads (map string_bytes words.now) LIMIT (R.left source.old) (R.left source.new) IsMissing }
-    ensures long { result ≡ TOO_LONG → ReadsPast LIMIT (R.left source.old) (R.left source.new) }
-    ensures refuses_long { RefusesLong LIMIT (R.left source.old) result }
-    ensures cut { result ≡ READ_FAULT → ReadsSome LIMIT (R.left source.old) (R.left source.new) }
-    ensures read_fault { result ≡ READ_FAULT → Rose (R.faults source.old) (R.faults source.new) }
-    ensures read_kept { result ≢ READ_FAULT → R.faults source.new ≡ R.faults source.old }
-    ensures write_fault { result ≡ WRITE_FAULT → Rose (W.faults sink.old) (W.faults sink.new) }
-    ensures write_kept { result ≢ WRITE_FAULT → W.faults sink.new ≡ W.faults sink.old }
-    ensures nothing { result ≢ DONE → result ≢ WRITE_FAULT → Keeps (W.taken sink.old) (W.taken sink.new) }
-    ensures known { (result ≡ DONE) ⊎ (result ≡ WRONG_WORDS) ⊎ (result ≡ READ_FAULT) ⊎ (result ≡ WRITE_FAULT)
+    ensures only_if_unbuilt { result ≡ NOT_BUILT → ReadsRequest (map string_bytes words.now) LIMIT (R.left source.old) (R.left source.new) IsUnbuilt }
+    ensures only_if_missing { result ≡ NO_SUCH_PART → ReadsRequest (map string_bytes words.now) LIMIT (R.left source.old) (R.left source.new) IsMissing }
+    ensures only_if_long { result ≡ TOO_LONG → ReadsPast LIMIT (R.left source.old) (R.left source.new) }
+    ensures refuses_every_long { RefusesLong LIMIT (R.left source.old) result }
+    ensures reads_prefix { result ≡ READ_FAULT → ReadsSome LIMIT (R.left source.old) (R.left source.new) }
+    ensures read_fault_has_cause { result ≡ READ_FAULT → Rose (R.faults source.old) (R.faults source.new) }
+    ensures keeps_read_faults { result ≢ READ_FAULT → R.faults source.new ≡ R.faults source.old }
+    ensures write_fault_has_cause { result ≡ WRITE_FAULT → Rose (W.faults sink.old) (W.faults sink.new) }
+    ensures keeps_write_faults { result ≢ WRITE_FAULT → W.faults sink.new ≡ W.faults sink.old }
+    ensures writes_nothing_else { result ≢ DONE → result ≢ WRITE_FAULT → Keeps (W.taken sink.old) (W.taken sink.new) }
+    ensures is_listed { (result ≡ DONE) ⊎ (result ≡ WRONG_WORDS) ⊎ (result ≡ READ_FAULT) ⊎ (result ≡ WRITE_FAULT)
         ⊎ (result ≡ OUT_OF_MEMORY) ⊎ (result ≡ TOO_LONG) ⊎ (result ≡ NOT_BUILT) ⊎ (result ≡ NO_SUCH_PART) }
 {
-    let Some(ask) = read_words(words) else {
+    let Some(request) = parse_words(words) else {
         return WRONG_WORDS;
     };
     match read_to_end(alloc, source, LIMIT) {
-        Ok(message) => show(alloc, &message, &ask.part, sink),
+        Ok(message) => show(alloc, &message, &request.part, sink),
         Err(InputFault::Failed) => READ_FAULT,
         Err(InputFault::Long) => TOO_LONG,
         Err(InputFault::Memory) => OUT_OF_MEMORY,
@@ -62,16 +62,16 @@ pub fn run_show<R: Source, W: Sink>(
 
 /// Writes the page of a message.
 fn show<W: Sink>(alloc: Global, message: &[u8], part: &Option<Section>, sink: &mut W) -> Status
-    ensures shown { result ≡ DONE → IsShown message.now part.now }
-    ensures done { result ≡ DONE → Appends (W.taken sink.old) (W.taken sink.new) (page_bytes message.now part.now) }
-    ensures safe { result ≡ DONE → IsSafe message.now part.now }
-    ensures part { result ≡ WRITE_FAULT → IsBegun (W.taken sink.old) (W.taken sink.new) message.now part.now }
-    ensures unbuilt { result ≡ NOT_BUILT → IsUnbuilt message.now part.now }
-    ensures missing { result ≡ NO_SUCH_PART → IsMissing message.now part.now }
-    ensures write_fault { result ≡ WRITE_FAULT → Rose (W.faults sink.old) (W.faults sink.new) }
-    ensures write_kept { result ≢ WRITE_FAULT → W.faults sink.new ≡ W.faults sink.old }
-    ensures nothing { result ≢ DONE → result ≢ WRITE_FAULT → Keeps (W.taken sink.old) (W.taken sink.new) }
-    ensures known { (result ≡ DONE) ⊎ (result ≡ WRITE_FAULT) ⊎ (result ≡ OUT_OF_MEMORY) ⊎ (result ≡ NOT_BUILT) ⊎ (result ≡ NO_SUCH_PART) }
+    ensures is_shown { result ≡ DONE → IsShown message.now part.now }
+    ensures writes_page { result ≡ DONE → Appends (W.taken sink.old) (W.taken sink.new) (page_bytes message.now part.now) }
+    ensures is_safe { result ≡ DONE → IsSafe message.now part.now }
+    ensures writes_prefix { result ≡ WRITE_FAULT → IsBegun (W.taken sink.old) (W.taken sink.new) message.now part.now }
+    ensures only_if_unbuilt { result ≡ NOT_BUILT → IsUnbuilt message.now part.now }
+    ensures only_if_missing { result ≡ NO_SUCH_PART → IsMissing message.now part.now }
+    ensures write_fault_has_cause { result ≡ WRITE_FAULT → Rose (W.faults sink.old) (W.faults sink.new) }
+    ensures keeps_write_faults { result ≢ WRITE_FAULT → W.faults sink.new ≡ W.faults sink.old }
+    ensures writes_nothing_else { result ≢ DONE → result ≢ WRITE_FAULT → Keeps (W.taken sink.old) (W.taken sink.new) }
+    ensures is_listed { (result ≡ DONE) ⊎ (result ≡ WRITE_FAULT) ⊎ (result ≡ OUT_OF_MEMORY) ⊎ (result ≡ NOT_BUILT) ⊎ (result ≡ NO_SUCH_PART) }
 {
     let page = match show_page(alloc, message, part) {
         Ok(page) => page,

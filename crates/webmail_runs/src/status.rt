@@ -1,14 +1,14 @@
-//! How a run of the program ends.
+//! The statuses of the program.
 ghost use Rattle.std.specs.Prelude.{◌≡◌};
-ghost use Rattle.webmail_runs.specs.Run.{line_of};
+ghost use Rattle.webmail_runs.specs.Run.{status_text};
 
-/// The status with which the process ends.
+/// The exit status of the process.
 pub type Status = u8;
 
-/// The page was written whole.
+/// The whole page was written.
 pub const DONE: Status = 0;
 
-/// The words of the command line aren't of a form that the program has.
+/// The words of the command line have no form that the program knows.
 pub const WRONG_WORDS: Status = 2;
 
 /// The source of the message failed.
@@ -19,19 +19,19 @@ pub const WRITE_FAULT: Status = 4;
 
 pub const OUT_OF_MEMORY: Status = 5;
 
-/// The message has more bytes than are read.
+/// The message is longer than the limit.
 pub const TOO_LONG: Status = 6;
 
-/// The message is of a kind that isn't shown yet.
+/// The part is of a kind that isn't shown yet.
 pub const NOT_BUILT: Status = 7;
 
-/// The message has no part of that section.
+/// The message has no text of that section.
 pub const NO_SUCH_PART: Status = 8;
 
-/// What the program says of a status: nothing of one that it doesn't know, and of success.
-#[tactic(auto, unfolding(crate::specs::Run::line_of))]
+/// The line that is written to standard error at a status: none at success, and none at an unknown status.
+#[tactic(auto, unfolding(crate::specs::Run::status_text))]
 pub fn status_line(status: Status) -> &'static str
-    ensures { result.now ≡ line_of status }
+    ensures { result.now ≡ status_text status }
 {
     match status {
         WRONG_WORDS => "webmail: wrong words",

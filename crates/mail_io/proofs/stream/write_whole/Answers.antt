@@ -9,6 +9,6 @@ loop-at-preserved g c =
     let call = c.in_ok-at.ensures in
     record {
       within = omega (arith, before.within, call.bound, length-take {A = ℕ}, length-drop {A = ℕ});
-      taken = taken_further _ _ _ c.args.bytes.now c.loop-at.at c.in_ok-at.field-0 before.within before.taken (rw take_rest at call.bytes);
+      taken = taken_further _ _ _ c.args.bytes.now c.loop-at.at c.in_ok-at.field-0 before.within before.taken (rw take_rest at call.appends);
       kept = call.cause.kept ∙ before.kept;
     }

@@ -1,6 +1,6 @@
 use Rattle.std.proofs.Common.{ap, sym, refl, ◌∙◌, ◌++◌, [], ◌∷◌, append_assoc, List, ℕ}
 use Rattle.std.specs.Prelude.{string_bytes}
-use Rattle.mail_pages.specs.Text.{line_feeds, without_line_feed}
+use Rattle.mail_pages.specs.Text.{with_line_feeds, skip_line_feed}
 use Rattle.mail_pages.specs.Frame.{text}
 use Rattle.mail_pages.proofs.Gathering.{gathers-last}
 use Rattle.mail_pages.proofs.LineFeeds.{next_line}
@@ -18,11 +18,11 @@ loop-line-preserved c =
     record {
       utf8 = c.without_first_line_feed-rest.utf8;
       written = λ more.
-          c.in_ok-add_line.ensures.written (line_feeds after ++ more)
+          c.in_ok-add_line.ensures.written (with_line_feeds after ++ more)
           ∙ ap (λ t. out.written ++ (text before ++ text t))
-          (sym (append_assoc (line ++ 10 ∷ []) (line_feeds after) more)
+          (sym (append_assoc (line ++ 10 ∷ []) (with_line_feeds after) more)
           ∙ ap (λ t. t ++ more) (next_line c.loop-line.rest.now line after c.in-Some.ensures.found c.in-Some.ensures.line
-          (c.without_first_line_feed-rest.ensures ∙ ap without_line_feed c.in-Some.ensures.after)))
+          (c.without_first_line_feed-rest.ensures ∙ ap skip_line_feed c.in-Some.ensures.after)))
           ∙ c.loop-line.invariant.written more;
       opened = c.in_ok-add_line.ensures.opened ∙ c.loop-line.invariant.opened;
     }

@@ -3,8 +3,8 @@ use Rattle.std.proofs.lemmas.List.{take_rest}
 use Rattle.mail_io.proofs.MemoryReads.{given_front, given_end}
 use Rattle.mail_io.proofs.memory.MemorySourceSource.read.Goals as goal
 
-pub returns-clause-bytes : goal.returns-clause-bytes
-returns-clause-bytes c =
+pub returns-clause-consumes : goal.returns-clause-consumes
+returns-clause-consumes c =
     let here = c.self.inside in
     let n = c.min-count.result in
     let lent : take (length c.as_slice.result.now - here.at) (drop here.at c.as_slice.result.now) ≡ drop here.at here.bytes = take_rest c.as_slice.result.now here.at ∙ ap (drop here.at) c.as_slice.ensures in

@@ -1,6 +1,6 @@
 use Rattle.std.proofs.Common.{◌≡◌, ℕ, List, length, map, take, decimal}
 use Rattle.mail_values.specs.Section.{IsSection, spelling, numbers_of}
-use Rattle.mail_values.proofs.sections.Section.read.Given as goal
+use Rattle.mail_values.proofs.sections.Section.parse.Given as goal
 
 abbrev pub invariant-loop-piece : goal.invariant-loop-piece
 invariant-loop-piece l = record {
