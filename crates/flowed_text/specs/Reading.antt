@@ -8,11 +8,11 @@ use Rattle.flowed_text.specs.Paragraphs.{ends_in_space, joinable_text, first_has
 abbrev pub para_of : OpenPara → Para
 para_of begun = record { depth = begun.depth; text = string_bytes begun.text }
 
--- a paragraph that is read up to a line which flows or not, and the lines after that one
+-- the paragraphs of one that is read up to a line, and of the lines after it
 abbrev pub continue_para : Bool → Bool → Para → List Para → List Para
 continue_para del_sp flowing para more = if flowing && first_has_depth para.depth more then onto_first_para (joinable_text del_sp para.text) (join_lines del_sp more) else para ∷ join_lines del_sp more
 
--- the paragraphs of a begun one and of the lines that follow
+-- the paragraphs of an open one and of the lines after it
 abbrev pub continue_open_para : Bool → OpenPara → List Para → List Para
 continue_open_para del_sp begun more = continue_para del_sp begun.flowing (para_of begun) more
 

@@ -1,4 +1,4 @@
-//! Flowed text (RFC 3676): the paragraphs of a text of `format=flowed`, and paragraphs written as one.
+//! Reads and writes flowed text (RFC 3676): the paragraphs of a text of `format=flowed`.
 #![tactic(auto)]
 
 mod lines;
@@ -10,8 +10,8 @@ pub use reading::read_flowed;
 pub use std::alloc::AllocError as Memory;
 pub use writing::write_flowed;
 
-/// A paragraph, or a line that stands alone: how deep it is quoted, and its text.
-#[derive(PartialEq, Eq, Drop)]
+/// A paragraph, or a single line: its quote depth and its text.
+#[derive(Drop)]
 pub struct Para {
     pub depth: u32,
     pub text: Text,

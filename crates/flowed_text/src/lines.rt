@@ -1,10 +1,10 @@
-//! The lines of a text, one at a time.
+//! Splits a text into lines.
 ghost use Rattle.std.specs.Prelude.{◌≡◌, ◌∷◌, [], ◌<◌, length, MatchOption, IfSome};
 ghost use Rattle.flowed_text.specs.Lines.{skip_line_ending, lines, strip_first};
 
 use memchr::memchr2;
 
-/// The first line of a text, without its ending, and what follows that.
+/// Splits after the first line of a text, and returns it without its ending; `None` if there is none.
 pub fn split_line(text: &str) -> Option<(&str, &str)>
     ensures lines { MatchOption result (lines text.now ≡ []) (λ cut. lines text.now ≡ cut.0.now ∷ lines cut.1.now) }
     ensures shorter { IfSome result (λ cut. length cut.1.now < length text.now) }
@@ -21,6 +21,7 @@ pub fn split_line(text: &str) -> Option<(&str, &str)>
     }
 }
 
+/// The text without the line ending at its front.
 fn skip_line_ending(text: &str) -> &str
     ensures { result.now ≡ skip_line_ending text.now }
 {
@@ -30,7 +31,7 @@ fn skip_line_ending(text: &str) -> &str
     }
 }
 
-/// A text without an ASCII character, if it stands first.
+/// The text without its first character, if that is `character`.
 pub fn strip_first(text: &str, character: char) -> &str
     requires { character < 128 }
     ensures { result.now ≡ strip_first character text.now }

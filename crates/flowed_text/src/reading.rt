@@ -9,7 +9,7 @@ use crate::{Memory, Para};
 use mail_values::Text;
 use std::alloc::Global;
 
-/// A paragraph up to the last of its lines so far, and whether that line flows.
+/// A paragraph up to its last line so far, and whether that line flows.
 #[derive(Drop)]
 struct OpenPara {
     depth: u32,
@@ -17,10 +17,10 @@ struct OpenPara {
     flowing: bool,
 }
 
-/// The paragraphs of a text of `format=flowed` (RFC 3676 §4), with `del_sp` where its `DelSp` is yes.
+/// Returns the paragraphs of a text of `format=flowed` (RFC 3676 §4). `del_sp` is its parameter `DelSp`.
 ///
-/// A line flows only into one of its own depth; where none follows, it is read as a fixed line and keeps its last space
-/// (§4.5). A paragraph takes 32 bytes besides its text, so that a text of empty lines takes 33 times its size.
+/// A line flows only into one of its own depth. If none follows, it is read as a fixed line and keeps its last space (§4.5). A
+/// paragraph takes 32 bytes besides its text, so a text of empty lines takes 33 times its size.
 pub fn read_flowed(alloc: Global, text: &str, del_sp: bool) -> Result<Vec<Para>, Memory>
     ensures { IfOk result (λ paras. paras.items ≡ paras_of text.now del_sp) }
 {
@@ -38,7 +38,7 @@ pub fn read_flowed(alloc: Global, text: &str, del_sp: bool) -> Result<Vec<Para>,
     Ok(paras)
 }
 
-/// The begun paragraph after one more line: the same one, if it flows into that line, and else a new one.
+/// Adds a line: to the open paragraph if it flows into that line, and else as a new one.
 fn add_line(
     alloc: Global,
     begun: OpenPara,
@@ -58,7 +58,7 @@ fn add_line(
     open_para(alloc, depth, text)
 }
 
-/// A paragraph of one line.
+/// Opens a paragraph with its first line.
 fn open_para(alloc: Global, depth: u32, text: &str) -> Result<OpenPara, Memory>
     ensures ends_in_space_if_flowing { IfOk result EndsInSpaceIfFlowing }
     ensures para { IfOk result (λ begun. para_of begun ≡ record { depth = depth; text = text.now }) }
@@ -71,7 +71,7 @@ fn open_para(alloc: Global, depth: u32, text: &str) -> Result<OpenPara, Memory>
     })
 }
 
-/// A paragraph that flows into one more line.
+/// Joins a line to the open paragraph.
 fn join_line(begun: OpenPara, text: &str, del_sp: bool) -> Result<OpenPara, Memory>
     requires { ends_in_space (string_bytes begun.text) ≡ true }
     ensures ends_in_space_if_flowing { IfOk result EndsInSpaceIfFlowing }
@@ -90,6 +90,7 @@ fn join_line(begun: OpenPara, text: &str, del_sp: bool) -> Result<OpenPara, Memo
     })
 }
 
+/// Closes a paragraph.
 fn close_para(begun: OpenPara) -> Para
     ensures { result ≡ para_of begun }
 {
@@ -99,7 +100,7 @@ fn close_para(begun: OpenPara) -> Para
     }
 }
 
-/// The depth of a line, and its text without its marks and its stuffing.
+/// Reads a line as its depth and its text, without marks and stuffing.
 fn read_line(line: &str) -> (u32, &str)
     ensures depth { result.0 ≡ (read_line line.now).depth }
     ensures text { result.1.now ≡ (read_line line.now).text }
@@ -113,6 +114,7 @@ fn read_line(line: &str) -> (u32, &str)
     (depth, strip_first(rest, ' '))
 }
 
+/// Whether a line flows into the next one of its depth.
 fn is_flowing(text: &str) -> bool
     ensures { result ≡ is_flowing text.now }
 {

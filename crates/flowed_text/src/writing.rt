@@ -15,9 +15,9 @@ const MAX_LEN: usize = 67_108_864;
 
 /// Writes paragraphs as a text of `format=flowed` (RFC 3676 §4.2), without DelSp.
 ///
-/// A text that would be longer than 67,108,864 bytes is refused as out of memory before anything is allocated: marks
-/// before each line can make it far longer than its paragraphs. Reading the text returns the same paragraphs if none holds
-/// CR or LF, and none but `-- ` ends in a space.
+/// A text that would be longer than 67,108,864 bytes is refused as out of memory before anything is allocated: the marks of each
+/// line can make it far longer than its paragraphs. Reading the text returns the same paragraphs if none has CR or LF, and none but
+/// `-- ` ends in a space.
 pub fn write_flowed(alloc: Global, paras: &[Para]) -> Result<String, Memory>
     ensures equals { IfOk result (λ text. string_bytes text ≡ flow paras.now) }
     ensures parses { All IsRestorable paras.now → IfOk result (λ text. paras_of (string_bytes text) false ≡ paras.now) }
@@ -44,7 +44,7 @@ fn flowed_len(paras: &[Para]) -> Option<usize>
     Some(MAX_LEN - left)
 }
 
-/// What a written paragraph leaves of `room` bytes, or `None` if it does not fit.
+/// The rest of `room` bytes after a written paragraph, or `None` if it does not fit.
 fn room_after_para(room: usize, para: &Para) -> Option<usize>
     ensures { LeavesRoom room (length (flow_para para.now)) result }
 {
@@ -58,7 +58,7 @@ fn room_after_para(room: usize, para: &Para) -> Option<usize>
     room_after_line(left, para.depth, rest)
 }
 
-/// What a written line leaves of `room` bytes, or `None` if it does not fit.
+/// The rest of `room` bytes after a written line, or `None` if it does not fit.
 fn room_after_line(room: usize, depth: u32, text: &str) -> Option<usize>
     ensures { LeavesRoom room (length (line_with_ending depth text.now)) result }
 {
@@ -69,7 +69,7 @@ fn room_after_line(room: usize, depth: u32, text: &str) -> Option<usize>
     Some(room - frame - text.len())
 }
 
-/// Adds the lines of a paragraph.
+/// Appends the lines of a paragraph.
 fn write_para(out: &mut String, para: &Para) -> Result<(), Memory>
     ensures depth { para.now.depth < 2 ^ 32 }
     ensures text { OnOk result (string_bytes out.new ≡ string_bytes out.old ++ flow_para para.now) }
@@ -83,7 +83,7 @@ fn write_para(out: &mut String, para: &Para) -> Result<(), Memory>
     write_line(out, para.depth, rest)
 }
 
-/// Adds a line, with its ending.
+/// Appends a line with its ending.
 fn write_line(out: &mut String, depth: u32, text: &str) -> Result<(), Memory>
     ensures { OnOk result (string_bytes out.new ≡ string_bytes out.old ++ line_with_ending depth text.now) }
 {
@@ -97,14 +97,14 @@ fn write_line(out: &mut String, depth: u32, text: &str) -> Result<(), Memory>
     out.push_str("\r\n")
 }
 
-/// Whether a space stands before the text of a line.
+/// Whether a line is stuffed with a space before its text.
 fn is_stuffed(depth: u32, text: &str) -> bool
     ensures { result ≡ is_stuffed depth text.now }
 {
     depth > 0 || text.starts_with(' ') || text.starts_with('>') || text.starts_with("From ")
 }
 
-/// After how many bytes the first line of a text ends; none where the text is the last line.
+/// The number of bytes after which the first line of a text ends, or `None` if the text is the last line.
 fn line_break(depth: u32, text: &str) -> Option<usize>
     ensures equals { result ≡ line_break depth text.now }
     ensures within { IfSome result (λ end. end ≤ length text.now) }
@@ -127,13 +127,14 @@ fn line_break(depth: u32, text: &str) -> Option<usize>
     last.or(first_break(bytes))
 }
 
+/// Whether a byte of UTF-8 begins a character.
 fn begins_character(byte: u8) -> bool
     ensures { result ≡ begins_character byte }
 {
     byte < 128 || byte >= 192
 }
 
-/// After how many bytes a line of a text may end at the earliest.
+/// The least number of bytes after which a line may end.
 fn first_break(bytes: &[u8]) -> Option<usize>
     ensures { result ≡ least (may_break bytes.now) (length bytes.now) }
 {
@@ -145,7 +146,7 @@ fn first_break(bytes: &[u8]) -> Option<usize>
     None
 }
 
-/// A line of a text may end after so many bytes.
+/// Whether a line may end after `size` bytes of a text.
 fn may_break(bytes: &[u8], size: usize) -> bool
     requires some { 0 < size }
     requires within { size ≤ length bytes.now }

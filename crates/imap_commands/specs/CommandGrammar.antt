@@ -1,5 +1,5 @@
--- The command that bytes are, with the number of its tag (RFC 9051, sections 2.2.1, 6 and 9; RFC 7162, section 7; RFC 4731).
--- Each reading takes what it names, and leaves the rest to the next one.
+-- The grammar of commands with their tags (RFC 9051 §2.2.1, §6, §9; RFC 7162 §7; RFC 4731). Each parser reads what it names, and then
+-- calls the next parser on the rest.
 use Rattle.std.specs.Prelude.{ℕ, ◌^◌, nat_lt, ◌+◌, ◌-◌, ◌*◌, ◌==◌, ◌&&◌, true, false, if◌then◌else◌, Option, Some, None, List, [], ◌∷◌, codes, option_map, option_and_then}
 use Rattle.std.specs.Option.{option_or}
 use Rattle.std.specs.Str.{bytes_eq}
@@ -11,29 +11,29 @@ use Rattle.imap_commands.specs.Bytes.{is_digit}
 use Rattle.imap_commands.specs.Items.{Item, items_of}
 use Rattle.imap_commands.specs.Items.Item.{Byte, Str}
 
--- what all of some items are read as
+-- a parser of a whole list of items
 abbrev pub Parser : Type 0 → Type 0
 Parser A = List Item → Option A
 
--- the first of the readings that fits
+-- the first of some parsers that succeeds
 unfoldable pub first_of : {A : Type 0} → List (Parser A) → Parser A
 first_of [] items = None
 first_of (one ∷ more) items = option_or (one items) (first_of more items)
 
--- these words, and then ..
+-- some words, and then the next parser
 unfoldable pub expect_words : {A : Type 0} → List ℕ → Parser A → Parser A
 expect_words [] next items = next items
 expect_words (word ∷ words) next (Byte c ∷ items) = if c == word then expect_words words next items else None
 expect_words (word ∷ words) next (Str text ∷ items) = None
 expect_words (word ∷ words) next [] = None
 
--- a string, and then ..
+-- a string, and then the next parser
 unfoldable pub string : {A : Type 0} → (List ℕ → Parser A) → Parser A
 string next (Str text ∷ items) = next text items
 string next (Byte c ∷ items) = None
 string next [] = None
 
--- a number of so many bits in decimal, and then ..
+-- a decimal number of at most `bits` bits, and then the next parser
 abbrev pub number_below : {A : Type 0} → ℕ → (ℕ → Parser A) → ℕ → Parser A
 number_below bits next n items = if nat_lt n (2 ^ bits) then next n items else None
 
@@ -47,12 +47,12 @@ number bits next (Byte c ∷ items) = if is_digit c then more_digits (number_bel
 number bits next (Str text ∷ items) = None
 number bits next [] = None
 
--- nothing more
+-- the end
 unfoldable pub expect_end : {A : Type 0} → A → Parser A
 expect_end value [] = Some value
 expect_end value (item ∷ items) = None
 
--- a flag, and then ..
+-- a flag, and then the next parser
 unfoldable pub flag : {A : Type 0} → (Label → Parser A) → Parser A
 flag next = first_of (
     expect_words (codes "\\Seen") (next Seen)
@@ -62,7 +62,7 @@ flag next = first_of (
     ∷ expect_words (codes "\\Draft") (next Draft)
     ∷ [])
 
--- the commands, after the words that tell them
+-- the commands, after their words
 unfoldable pub select_command : Parser Command
 select_command = string (λ folder. first_of (
     expect_end (Select folder None)
@@ -111,6 +111,6 @@ command = first_of (
 unfoldable pub tagged_command : Parser (ℕ × Command)
 tagged_command = expect_words (codes "A") (number 32 (λ tag. expect_words (codes " ") (λ items. option_map (λ one. (tag, one)) (command items))))
 
--- the command that bytes are, if they are one whole command
+-- the command and tag number that bytes are, if they are one whole command
 unfoldable pub command_of : List ℕ → Option (ℕ × Command)
 command_of bytes = option_and_then tagged_command (items_of bytes)

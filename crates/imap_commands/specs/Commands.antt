@@ -1,4 +1,4 @@
--- The commands, part by part (RFC 9051, section 6; RFC 7162, section 3; RFC 4731).
+-- The parts of each command (RFC 9051 §6, RFC 7162 §3, RFC 4731).
 use Rattle.std.specs.Prelude.{ℕ, Bool, true, false, ◌==◌, if◌then◌else◌, List, [], ◌∷◌, ◌++◌, codes, decimal, Option, Some, None}
 use Rattle.imap_commands.specs.declared.command.Command.{Command}
 use Rattle.imap_commands.specs.declared.command.Command.TheVariants.{Login, Capability, Enable, List as ListAll, Select, Noop, FetchNew, FetchChanged, FetchBody, Search, Store, Move, Expunge, Append}
@@ -19,7 +19,7 @@ abbrev pub label_words : Option Label → List ℕ
 label_words None = []
 label_words (Some label) = label_word label
 
--- what is known of the folder is said where changes were told up to a mark
+-- the QRESYNC parameters of a SELECT, which need a MODSEQ above 0
 abbrev pub resync_parts : Known → List Part
 resync_parts known = Words (codes " (QRESYNC (") ∷ Words (decimal known.validity) ∷ Words (codes " ") ∷ Words (decimal known.mark) ∷ Words (codes "))") ∷ []
 
@@ -54,10 +54,10 @@ command_parts (Expunge uid) = Words (codes "UID EXPUNGE ") ∷ Words (decimal ui
 command_parts (Append folder label message) =
     Words (codes "APPEND ") ∷ Text folder ∷ Words (codes " (") ∷ Words (label_words label) ∷ Words (codes ") ") ∷ Literal message ∷ []
 
--- `A`, the number of the command, and a space
+-- the tag: `A`, the number of the command, and a space
 abbrev pub tag_parts : ℕ → List Part
 tag_parts tag = Words (codes "A") ∷ Words (decimal tag) ∷ Words (codes " ") ∷ []
 
--- the pieces of a command
+-- the pieces of a command, as they are sent
 unfoldable pub command_pieces : ℕ → Command → List (List ℕ)
 command_pieces tag command = pieces_of (tag_parts tag ++ command_parts command)

@@ -1,18 +1,18 @@
--- The bytes of a command as bytes and strings (RFC 9051, section 4.3 and section 9: `command`, `quoted`, `literal`).
+-- The lexer of commands: bytes as single bytes and strings (RFC 9051 §4.3, §9: `command`, `quoted`, `literal`).
 use Rattle.std.specs.Prelude.{ℕ, zero, suc, ◌+◌, ◌-◌, ◌*◌, ◌==◌, ◌||◌, if◌then◌else◌, Option, Some, None, List, [], ◌∷◌, ◌++◌}
 use Rattle.imap_commands.specs.Bytes.{line_feed, carriage_return, quotation_mark, backslash, left_brace, right_brace, is_digit}
 use Rattle.imap_commands.specs.Pieces.{line_end}
 
--- a byte between strings, or a string, quoted or a literal
+-- a byte outside of strings, or a string, quoted or literal
 pub data Item : Type 0 where
   Byte : ℕ → Item
   Str : List ℕ → Item
 
 -- the state of a lexer
 pub data LexState : Type 0 where
-  -- between strings, after these items
+  -- outside of strings: the items so far
   Between : List Item → LexState
-  -- in a quoted string, after these bytes of it, and after a `\` there
+  -- in a quoted string: the items before it and its bytes so far; and after a `\` in one
   Quoted : List Item → List ℕ → LexState
   Escaped : List Item → List ℕ → LexState
   -- after the `{` of a literal, and in its size
@@ -20,7 +20,7 @@ pub data LexState : Type 0 where
   Size : List Item → ℕ → LexState
   -- in a literal: the bytes to come, and those so far
   Octets : List Item → ℕ → List ℕ → LexState
-  -- these bytes have to come before that place
+  -- certain bytes have to come before the next state
   Expect : List ℕ → LexState → LexState
   -- after the end of a command
   Whole : List Item → LexState
@@ -63,7 +63,7 @@ unfoldable pub lex_from : LexState → List ℕ → LexState
 lex_from place [] = place
 lex_from place (c ∷ bytes) = lex_from (lex_step place c) bytes
 
--- the items of bytes that are one whole command: it ends with the first line end outside its strings, and nothing follows
+-- the items of one whole command: it ends at its first line end outside of strings, and nothing follows
 abbrev pub items_if_whole : LexState → Option (List Item)
 items_if_whole (Whole items) = Some items
 items_if_whole _ = None

@@ -1,21 +1,21 @@
--- The pieces of a command while they are written.
+-- The pieces of a command while it is written.
 use Rattle.std.specs.Prelude.{◌≡◌, ℕ, List, ◌∷◌, ◌++◌, map}
 use Rattle.std.specs.Global.{Vec}
 use Rattle.imap_commands.specs.declared.pieces.Pieces.{Pieces}
 use Rattle.imap_commands.specs.Pieces.{Part, pieces_of, onto_first}
 
--- the bytes of each piece
+-- the bytes of each vector
 abbrev pub bytes_of_vecs : List (Vec ℕ) → List (List ℕ)
 bytes_of_vecs pieces = map (λ piece. piece.items) pieces
 
--- the pieces so far, with more parts to come
+-- the pieces so far, followed by those of more parts
 abbrev pub pieces_with : Pieces → List Part → List (List ℕ)
 pieces_with p more = bytes_of_vecs p.whole.items ++ onto_first p.last.items (pieces_of more)
 
--- a part was added
+-- a part is appended
 abbrev pub AppendsPart : Pieces → Pieces → Part → Type 0
 AppendsPart before after part = (more : List Part) → pieces_with after more ≡ pieces_with before (part ∷ more)
 
--- these parts were added
+-- some parts are appended
 abbrev pub AppendsParts : Pieces → Pieces → List Part → Type 0
 AppendsParts before after parts = (more : List Part) → pieces_with after more ≡ pieces_with before (parts ++ more)

@@ -2,7 +2,7 @@
 
 use mail_values::{Bytes, Text};
 
-/// A flag of a message that is set or cleared (RFC 9051 §2.3.2).
+/// A flag of a message that can be set or cleared (RFC 9051 §2.3.2).
 #[derive(Clone, Copy)]
 pub enum Label {
     Seen,
@@ -12,7 +12,7 @@ pub enum Label {
     Draft,
 }
 
-/// What is known of a folder since it was last selected: its UIDVALIDITY, and the MODSEQ up to which changes were told.
+/// The state of a folder when it was last selected: its UIDVALIDITY, and the MODSEQ up to which its changes are known.
 #[derive(Clone, Copy)]
 pub struct Known {
     pub validity: u32,
@@ -27,7 +27,7 @@ pub enum Command {
         password: Text,
     },
     Capability,
-    /// Turns IMAP4rev2 and QRESYNC on.
+    /// Enables IMAP4rev2 and QRESYNC.
     Enable,
     /// Lists all folders.
     List,
@@ -36,18 +36,18 @@ pub enum Command {
         known: Option<Known>,
     },
     Noop,
-    /// Fetches rows of the messages from a UID on.
+    /// Fetches the rows of all messages from a UID on.
     FetchNew {
         from: u32,
     },
-    /// Fetches what changed since a MODSEQ.
+    /// Fetches the changes since a MODSEQ.
     FetchChanged {
         mark: u64,
     },
     FetchBody {
         uid: u32,
     },
-    /// Seeks words in whole messages.
+    /// Searches whole messages for words.
     Search {
         words: Text,
     },

@@ -1,4 +1,4 @@
-//! The commands that are said to an IMAP4rev2 server (RFC 9051 §6), with QRESYNC and CONDSTORE (RFC 7162).
+//! Encodes the commands of an IMAP4rev2 client (RFC 9051 §6), with QRESYNC and CONDSTORE (RFC 7162), and represents sets of UIDs.
 #![tactic(auto)]
 
 mod command;

@@ -1,4 +1,4 @@
-//! Writes the pieces of a command one part after the other.
+//! Writes the pieces of a command, part by part.
 ghost use Rattle.std.specs.Prelude.{◌≡◌, ◌++◌, ◌∷◌, [], List, ℕ, map, IfOk, OnOk, decimal};
 ghost use Rattle.std.specs.List.{list_all, flat_map};
 ghost use Rattle.imap_commands.specs.Pieces.{Part, pieces_of, is_plain, is_quotable, quoted, quoted_byte, literal_size};
@@ -8,10 +8,10 @@ ghost use Rattle.imap_commands.specs.Written.{bytes_of_vecs, pieces_with, Append
 use itoa::Buffer;
 use std::alloc::{AllocError as Memory, Global};
 
-/// The most bytes of a quoted string.
+/// The maximum length of a quoted string in bytes.
 const QUOTED: usize = 1_000;
 
-/// The pieces so far: those that are whole, and the one that is being written.
+/// The pieces so far: the complete ones, and the last, which is being written.
 #[derive(Drop)]
 pub struct Pieces {
     whole: Vec<Vec<u8>>,
@@ -29,7 +29,7 @@ impl Pieces {
         }
     }
 
-    /// Adds words as they stand.
+    /// Appends words as they are.
     #[tactic(auto, using(crate::proofs::PieceLemmas::words_go))]
     pub fn push_words(&mut self, words: &str) -> Result<(), Memory>
         ensures { OnOk result (AppendsPart self.old self.new (Words words.now)) }
@@ -37,21 +37,21 @@ impl Pieces {
         self.last.extend_from_slice(words.as_bytes())
     }
 
-    /// Adds a number in decimal.
+    /// Appends a number in decimal.
     pub fn push_number(&mut self, number: u64) -> Result<(), Memory>
         ensures { OnOk result (AppendsPart self.old self.new (Words (decimal number))) }
     {
         self.push_words(Buffer::new().format(number))
     }
 
-    /// Adds a number of 32 bits in decimal.
+    /// Appends a number of 32 bits in decimal.
     pub fn push_u32(&mut self, number: u32) -> Result<(), Memory>
         ensures { OnOk result (AppendsPart self.old self.new (Words (decimal number))) }
     {
         self.push_number(u64::from(number))
     }
 
-    /// Adds a string: quoted, or as a literal where it can't be quoted.
+    /// Appends a string: quoted if possible, and else as a literal.
     #[tactic(auto, unfolding(crate::specs::Pieces::pieces_of))]
     pub fn push_string(&mut self, alloc: Global, text: &str) -> Result<(), Memory>
         ensures { OnOk result (AppendsPart self.old self.new (Str text.now)) }
@@ -70,7 +70,7 @@ impl Pieces {
         append_quoted(&mut self.last, text)
     }
 
-    /// Ends the piece by the size of a literal, and begins the next with its bytes.
+    /// Appends a literal: its size ends the piece, and its bytes begin the next.
     #[tactic(auto, using(crate::proofs::PieceLemmas::literal_goes))]
     pub fn push_literal(&mut self, alloc: Global, bytes: &[u8]) -> Result<(), Memory>
         ensures { OnOk result (AppendsPart self.old self.new (Literal bytes.now)) }
@@ -81,7 +81,7 @@ impl Pieces {
         Ok(())
     }
 
-    /// Ends the last piece.
+    /// Ends the last piece, and returns all pieces.
     #[tactic(auto, using(crate::proofs::PieceLemmas::ends))]
     pub fn finish(self) -> Result<Vec<Vec<u8>>, Memory>
         ensures { IfOk result (λ pieces. bytes_of_vecs pieces.items ≡ pieces_with self []) }
@@ -94,7 +94,7 @@ impl Pieces {
     }
 }
 
-/// Says how many bytes a literal has.
+/// Appends the size of a literal.
 fn append_size(piece: &mut Vec<u8>, size: usize) -> Result<(), Memory>
     ensures { OnOk result (piece.new.items ≡ piece.old.items ++ literal_size size) }
 {

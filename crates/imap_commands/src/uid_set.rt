@@ -1,4 +1,4 @@
-//! Sets of UIDs, as a server sends them (RFC 9051 §9, `uid-set`).
+//! Sets of UIDs (RFC 9051 §9, `uid-set`).
 ghost use Rattle.std.specs.Prelude.{◌≡◌, ℕ, ◌≤◌, ◌||◌, ◌++◌, List, min, max, IfOk, OnOk};
 ghost use Rattle.imap_commands.specs.declared.uid_set.UidRange.{UidRange};
 ghost use Rattle.imap_commands.specs.UidSets.{in_range, contains_uid, AreApart, BeginBy, joined};
@@ -6,7 +6,7 @@ ghost use Rattle.imap_commands.specs.UidSets.{in_range, contains_uid, AreApart, 
 use std::alloc::{AllocError as Memory, Global};
 use std::marker::Model;
 
-/// The UIDs from the first to the last, both among them.
+/// The UIDs from `first` to `last`, both included.
 #[derive(Clone, Copy)]
 pub struct UidRange {
     pub first: u32,
@@ -14,7 +14,7 @@ pub struct UidRange {
 }
 
 impl UidRange {
-    /// The range of two UIDs, which may come in either order.
+    /// The range between two UIDs in either order.
     pub fn between(one: u32, other: u32) -> UidRange
         ensures first { result.first ≡ min one other }
         ensures last { result.last ≡ max one other }
@@ -41,7 +41,8 @@ impl Model for UidSet {
 }
 
 impl UidSet {
-    /// The UIDs of any of the ranges, which come in any order and may overlap. A range whose last UID is below its first has none.
+    /// Creates the set of the UIDs in any of the ranges, which may overlap and be in any order. A range whose last UID is below its first is
+    /// empty.
     pub fn of(alloc: Global, mut ranges: Vec<UidRange>) -> Result<UidSet, Memory>
         ensures { IfOk result (λ set. (uid : ℕ) → contains_uid uid set ≡ contains_uid uid ranges.items) }
     {
@@ -53,7 +54,7 @@ impl UidSet {
         Ok(UidSet { ranges: merged })
     }
 
-    /// Whether a UID is in the set: found by halving, with no memory.
+    /// Whether a UID is in the set. Searches by bisection, without allocation.
     pub fn contains(&self, uid: u32) -> bool
         ensures { result ≡ contains_uid uid self.now }
     {
@@ -64,6 +65,7 @@ impl UidSet {
         }
     }
 
+    /// The ranges of the set, in ascending order.
     pub fn ranges(&self) -> &[UidRange]
         ensures same { result.now ≡ self.now }
         ensures apart { AreApart result.now }
@@ -72,7 +74,7 @@ impl UidSet {
     }
 }
 
-/// Adds a range that begins no earlier than the others.
+/// Adds a range that does not begin before the others.
 fn add(merged: &mut Vec<UidRange>, range: UidRange) -> Result<(), Memory>
     requires apart { AreApart merged.old.items }
     requires latest { BeginBy range.first merged.old.items }

@@ -1,4 +1,4 @@
-//! Writes a command.
+//! Writes commands.
 ghost use Rattle.std.specs.Prelude.{◌≡◌, ◌++◌, ◌∷◌, [], map, codes, decimal, IfOk, OnOk, List, ℕ};
 ghost use Rattle.std.specs.List.{concat};
 ghost use Rattle.imap_commands.specs.Pieces.Part.{Words, Text as Str, Literal};
@@ -11,7 +11,7 @@ use crate::command::{Command, Known, Label};
 use crate::pieces::Pieces;
 use std::alloc::{AllocError as Memory, Global};
 
-/// The pieces of a command with the tag `A` and a number. Between two pieces the server's `+` is awaited.
+/// Encodes a command with the tag `A` and a number into the pieces to send. The client awaits the server's `+` between two pieces.
 #[tactic(auto, unfolding(crate::specs::Commands::command_pieces))]
 pub fn write(alloc: Global, command: &Command, tag: u32) -> Result<Vec<Vec<u8>>, Memory>
     ensures equals { IfOk result (λ pieces. bytes_of_vecs pieces.items ≡ command_pieces tag command.now) }
@@ -92,7 +92,7 @@ fn write_select(
     Ok(())
 }
 
-/// Says up to which mark changes were told, where they were.
+/// Writes the QRESYNC parameters of a SELECT, if there are any.
 fn write_known(pieces: &mut Pieces, known: &Option<Known>) -> Result<(), Memory>
     ensures parts { OnOk result (AppendsParts pieces.old pieces.new (known_parts known.now)) }
     ensures fits { OnOk result (KnownFitsFieldTypes known.now) }

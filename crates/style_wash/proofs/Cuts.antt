@@ -4,9 +4,9 @@ use Rattle.std.proofs.Math.Seq.{take-suc}
 use Rattle.std.proofs.lemmas.List.{append-nil, nil_from_length, length-drop, take-append-le, take_all}
 use Rattle.style_wash.specs.Characters.{is_separator}
 use Rattle.style_wash.specs.Items.{Item, item_of, written_item}
-use Rattle.style_wash.specs.Values.{Place, Parts, Gapped, Separator, Step, parts, with_gap, separates, place_after, separator_of, step_onto, steps_of, value_in, value_onto, written_separator}
-use Rattle.style_wash.specs.Values.Place.{Outside, Until}
-use Rattle.style_wash.specs.Cuts.{IsTextAndRest, Begins, IsGapAndRest, begins_gap, written_onto}
+use Rattle.style_wash.specs.Values.{Nesting, Parts, Gapped, Separator, Step, parts, with_gap, is_item_end, nesting_after, separator_of, step_onto, steps_of, value_in, value_onto, written_separator}
+use Rattle.style_wash.specs.Values.Nesting.{Outside, Until}
+use Rattle.style_wash.specs.Cuts.{IsTextAndRest, BeginsWith, IsGapAndRest, begins_gap, written_onto}
 
 -- parts with characters of a text, or of a gap, at their front
 abbrev pub text_onto : List ℕ → Parts → Parts
@@ -17,8 +17,8 @@ gap_onto xs [] [] = record { first = []; more = record { gap = xs; text = [] } �
 gap_onto xs [] (next ∷ more) = record { first = []; more = record { gap = xs ++ next.gap; text = next.text } ∷ more }
 gap_onto xs (d ∷ text) more = record { first = []; more = record { gap = xs; text = d ∷ text } ∷ more }
 
-pub parts-text : (place : Place) (c : ℕ) (more : List ℕ) → separates place c ≡ false
-    → parts place (c ∷ more) ≡ record { first = c ∷ (parts (place_after true place c) more).first; more = (parts (place_after true place c) more).more }
+pub parts-text : (place : Nesting) (c : ℕ) (more : List ℕ) → is_item_end place c ≡ false
+    → parts place (c ∷ more) ≡ record { first = c ∷ (parts (nesting_after true place c) more).first; more = (parts (nesting_after true place c) more).more }
 unfolding parts
 parts-text place c more e = rw e refl
 
@@ -27,7 +27,7 @@ pub parts-gap : (c : ℕ) (more : List ℕ) → is_separator c ≡ true
 unfolding parts
 parts-gap c more e = rw e refl
 
-pub parts-nil : (place : Place) → parts place [] ≡ record { first = []; more = [] }
+pub parts-nil : (place : Nesting) → parts place [] ≡ record { first = []; more = [] }
 unfolding parts
 parts-nil place = refl
 
@@ -37,14 +37,14 @@ text_onto-cons : (xs : List ℕ) (c : ℕ) (ps : Parts)
     → text_onto xs (record { first = c ∷ ps.first; more = ps.more }) ≡ text_onto (xs ++ c ∷ []) ps
 text_onto-cons xs c ps = ap (λ (first : List ℕ). let p : Parts = record { first = first; more = ps.more } in p) (sym (append_assoc xs (c ∷ []) ps.first))
 
-pub text_goes_on : (place : Place) (value : List ℕ) (end : ℕ) → end < length value → separates place (get_or value end 0) ≡ false
+pub text_goes_on : (place : Nesting) (value : List ℕ) (end : ℕ) → end < length value → is_item_end place (get_or value end 0) ≡ false
     → text_onto (take end value) (parts place (drop end value))
-    ≡ text_onto (take (end + 1) value) (parts (place_after true place (get_or value end 0)) (drop (end + 1) value))
+    ≡ text_onto (take (end + 1) value) (parts (nesting_after true place (get_or value end 0)) (drop (end + 1) value))
 text_goes_on place value end lt e =
     let c = get_or value end 0 in
     rw (add-one, drop-cons value end 0, take-suc value end 0)
     (ap (text_onto (take end value)) (parts-text place c (drop (suc end) value) e)
-    ∙ text_onto-cons (take end value) c (parts (place_after true place c) (drop (suc end) value)))
+    ∙ text_onto-cons (take end value) c (parts (nesting_after true place c) (drop (suc end) value)))
 
 with_gap-first : (c : ℕ) (first : List ℕ) (more : List Gapped) → (with_gap c first more).first ≡ []
 with_gap-first c [] [] = refl
@@ -52,7 +52,7 @@ with_gap-first c [] (next ∷ more) = refl
 with_gap-first c (d ∷ text) more = refl
 
 -- at a separator outside the parts begin with a gap
-at_gap : (place : Place) (c : ℕ) (more : List ℕ) → separates place c ≡ true
+at_gap : (place : Nesting) (c : ℕ) (more : List ℕ) → is_item_end place c ≡ true
     → (parts place (c ∷ more) ≡ parts Outside (c ∷ more)) × ((parts Outside (c ∷ more)).first ≡ []) × (is_separator c ≡ true)
 at_gap Outside c more e = (refl, rw (parts-gap c more e) (with_gap-first c (parts Outside more).first (parts Outside more).more), e)
 at_gap (Until end) c more e = cc
@@ -62,7 +62,7 @@ text_onto-none xs ps e =
     ap (λ (first : List ℕ). let p : Parts = record { first = xs ++ first; more = ps.more } in p) e
     ∙ ap (λ (first : List ℕ). let p : Parts = record { first = first; more = ps.more } in p) (append-nil xs)
 
-pub text_at_end : (place : Place) (value : List ℕ) (end : ℕ) → end ≤ length value → length value ≤ end
+pub text_at_end : (place : Nesting) (value : List ℕ) (end : ℕ) → end ≤ length value → length value ≤ end
     → text_onto (take end value) (parts place (drop end value)) ≡ parts Outside value
     → IsTextAndRest value (take end value) (drop end value)
 text_at_end place value end le ge is =
@@ -76,7 +76,7 @@ text_at_end place value end le ge is =
       bound = omega (arith, length-drop end value);
     }
 
-pub text_at_gap : (place : Place) (value : List ℕ) (end : ℕ) → end < length value → separates place (get_or value end 0) ≡ true
+pub text_at_gap : (place : Nesting) (value : List ℕ) (end : ℕ) → end < length value → is_item_end place (get_or value end 0) ≡ true
     → text_onto (take end value) (parts place (drop end value)) ≡ parts Outside value
     → IsTextAndRest value (take end value) (drop end value)
 text_at_gap place value end lt e is =
@@ -140,7 +140,7 @@ pub gap_at_text : (text : List ℕ) (end : ℕ) → 0 < end → end < length tex
     → IsGapAndRest text (take end text) (drop end text)
 gap_at_text text end some lt e is =
     let c = get_or text end 0 in
-    let after = parts (place_after true Outside c) (drop (suc end) text) in
+    let after = parts (nesting_after true Outside c) (drop (suc end) text) in
     let begun : parts Outside (drop end text) ≡ record { first = c ∷ after.first; more = after.more } = ap (parts Outside) (drop-cons text end 0 lt) ∙ parts-text Outside c (drop (suc end) text) e in
     record {
       parts_are = ap (λ (ps : Parts). ps.more) (sym is)
@@ -190,11 +190,11 @@ unfolding value_in steps_of
 next_item front text left n item separator ps rest gap one is i s =
     rw (is, one, add-one, i, s) (written_step_of front item separator (item_of rest.first) (steps_of n rest.more))
 
-pub begins_itself : (front : List ℕ) → Begins front front
+pub begins_itself : (front : List ℕ) → BeginsWith front front
 begins_itself front = record { bound = omega arith; is = take_all (length front) front (omega arith) }
 
 -- what begins a text begins it also where more is written
-pub begins_more : (front text more grown : List ℕ) → grown ≡ text ++ more → Begins front text → Begins front grown
+pub begins_more : (front text more grown : List ℕ) → grown ≡ text ++ more → BeginsWith front text → BeginsWith front grown
 begins_more front text more grown e h =
     let bound : length front ≤ length text = h.bound in
     rw e (record {

@@ -11,24 +11,24 @@ use Rattle.style_wash.specs.Characters.{is_comma, is_digit, is_letter, is_name_c
 use Rattle.style_wash.specs.Tables.{is_unit, units}
 use Rattle.style_wash.specs.Items.{Item, are_levels, begins_unit, inner, is_hex_colour, is_decimal, is_level, is_name, is_number, is_plain, is_rgb, is_word, item_of, last, written_item}
 use Rattle.style_wash.specs.Items.Item.{Plain, Name}
-use Rattle.style_wash.specs.Values.{Place, place_after, separates}
-use Rattle.style_wash.specs.Values.Place.{Outside, Until}
-use Rattle.style_wash.proofs.Calls.{CallsOnlyRgb, calls-append, calls_none, calls_rgb, is_no_bracket}
+use Rattle.style_wash.specs.Values.{Nesting, nesting_after, is_item_end}
+use Rattle.style_wash.specs.Values.Nesting.{Outside, Until}
+use Rattle.style_wash.proofs.Calls.{CallsOnlyRgbFirst, calls-append, calls_none, calls_first_none, calls_rgb, is_no_bracket}
 use Rattle.style_wash.proofs.Facts.{and_true, all_append, all_wider, all_wider_texts, all_parts, among_all, bytes_eq-true, is_plain_char, is_item_char, is_safe, plain_char, item_char, name_char, word_char, letter_char, hexadecimal_char, number_char, is_level_char, level_char, level_no_bracket, level_no_open, name_no_open}
 
 -- ---- walks over a text
 
 -- no separator stands outside of quotes and brackets, and all of them are closed
-unfoldable pub holds : Place → List ℕ → Bool
+unfoldable pub holds : Nesting → List ℕ → Bool
 holds Outside [] = true
 holds (Until end) [] = false
-holds place (c ∷ more) = not (separates place c) && holds (place_after true place c) more
+holds place (c ∷ more) = not (is_item_end place c) && holds (nesting_after true place c) more
 
 -- no `;` stands in the text, and all quotes are closed
-unfoldable pub quiet : Place → List ℕ → Bool
+unfoldable pub quiet : Nesting → List ℕ → Bool
 quiet Outside [] = true
 quiet (Until end) [] = false
-quiet place (c ∷ more) = not (c == 59) && quiet (place_after false place c) more
+quiet place (c ∷ more) = not (c == 59) && quiet (nesting_after false place c) more
 
 holds-plain : (text : List ℕ) → list_all is_plain_char text ≡ true → holds Outside text ≡ true
 unfolding holds
@@ -75,14 +75,14 @@ pub record IsUnquoted (text : List ℕ) : Type 0 where
   pub some : 0 < length text
   pub chars : list_all is_item_char text ≡ true
   pub whole : holds Outside text ≡ true
-  pub calls : CallsOnlyRgb text
+  pub calls : CallsOnlyRgbFirst text
 
 of_plain_chars : (text : List ℕ) → 0 < length text → list_all is_plain_char text ≡ true → IsUnquoted text
 of_plain_chars text some a = record {
   some = some;
   chars = all_wider is_plain_char is_item_char (λ c e. (plain_char c e).item) text a;
   whole = holds-plain text a;
-  calls = calls_none text (all_wider is_plain_char is_no_bracket (λ c e. (plain_char c e).no_bracket) text a);
+  calls = calls_first_none text (all_wider is_plain_char is_no_bracket (λ c e. (plain_char c e).no_bracket) text a);
 }
 
 of_word : (text : List ℕ) → is_word text ≡ true → IsUnquoted text
@@ -207,7 +207,7 @@ pub record IsGood (item : Item) : Type 0 where
   pub whole : holds Outside (written_item item) ≡ true
   pub silent : quiet Outside (written_item item) ≡ true
   pub safe : list_all is_safe (written_item item) ≡ true
-  pub calls : CallsOnlyRgb (written_item item)
+  pub calls : CallsOnlyRgbFirst (written_item item)
   pub begins : BeginsDark (written_item item)
   pub ends : EndsDark (written_item item)
 
@@ -229,7 +229,7 @@ begins_of (c ∷ more) some h = record {
   first = c;
   more = more;
   is = refl;
-  dark = not_true (is_separator c) (and_true (not (is_separator c)) (holds (place_after true Outside c) more) h).0;
+  dark = not_true (is_separator c) (and_true (not (is_separator c)) (holds (nesting_after true Outside c) more) h).0;
 }
 
 good_plain : (text : List ℕ) → is_plain text ≡ true → IsGood (Plain text)
@@ -282,7 +282,7 @@ good_quoted name some few a = record {
   whole = holds-name name a;
   silent = quiet-name name a;
   safe = all_append is_safe name (39 ∷ []) (all_wider is_name_char is_safe (λ c h. (name_char c h).safe) name a) refl;
-  calls = calls_none (39 ∷ name ++ 39 ∷ []) (all_append is_no_bracket name (39 ∷ []) (all_wider is_name_char is_no_bracket name_no_open name a) refl);
+  calls = calls_first_none (39 ∷ name ++ 39 ∷ []) (all_append is_no_bracket name (39 ∷ []) (all_wider is_name_char is_no_bracket name_no_open name a) refl);
   begins = record { first = 39; more = name ++ 39 ∷ []; is = refl; dark = refl };
   ends = record { front = 39 ∷ name; last = 39; is = refl; dark = refl };
 }

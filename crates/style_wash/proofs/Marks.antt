@@ -1,54 +1,26 @@
 -- The colon and the mark of a declaration.
-use Rattle.std.proofs.Common.{◌≡◌, ◌<◌, ◌≤◌, ◌+◌, ℕ, Bool, true, false, ◌||◌, cond, List, [], ◌∷◌, ◌++◌, length, take, drop, Option, Some, None, nat_le, refl, sym, ap, ◌∙◌, arith, append_assoc}
+use Rattle.std.proofs.Common.{◌≡◌, ◌≤◌, ◌+◌, ℕ, List, [], ◌∷◌, ◌++◌, length, take, drop, Option, Some, None, refl, sym, ap, ◌∙◌, arith, append_assoc}
 use Rattle.std.specs.Prelude.{codes}
 use Rattle.std.specs.List.{position_or_len}
-use Rattle.std.specs.Str.{bytes_eq}
-use Rattle.std.proofs.lemmas.Bool.Decides.{nat_tests}
 use Rattle.std.proofs.lemmas.List.{nil_from_length, length-drop, take-take}
-use Rattle.style_wash.specs.Characters.{is_colon, is_mark, trimmed, without_back}
+use Rattle.style_wash.specs.Characters.{is_colon, trimmed}
 use Rattle.style_wash.specs.Items.{is_plain, is_number, is_rgb, is_name, item_of}
 use Rattle.style_wash.specs.Tables.{property_of, is_unit, units}
-use Rattle.style_wash.specs.Declarations.{Declaration, declaration_of, declaration_with, ends_well, value_after_colon}
-use Rattle.style_wash.specs.Cuts.{Begins, with_declaration, property_onto, written_onto}
+use Rattle.style_wash.specs.Declarations.{Declaration, declaration_of, declaration_with, value_after_colon, without_important}
+use Rattle.style_wash.specs.Cuts.{BeginsWith, with_declaration, property_onto, written_onto}
 use Rattle.style_wash.proofs.Cuts.{begins_itself, begins_more}
 use Rattle.style_wash.specs.Values.{Value, parts, steps_of, value_in, value_of}
 
 -- ---- the mark
 
-marked : (short important : Bool) (value : Option Value) → short ≡ false → important ≡ false → cond (short || important) value None ≡ None
-marked short important value s i = rw (s, i) refl
-
-pub bad_mark : (value : List ℕ) (mark : ℕ) → mark ≡ position_or_len is_mark value → mark < length value
-    → bytes_eq (without_back (drop (mark + 1) value)) (codes "important") ≡ false → value_after_colon value ≡ None
-unfolding value_after_colon ends_well
-bad_mark value mark at lt e =
-    let short : nat_le (length value) (position_or_len is_mark value) ≡ false = grind (arith, nat_tests) in
-    let important : bytes_eq (without_back (drop (position_or_len is_mark value + 1) value)) (codes "important") ≡ false = rw (← at) e in
-    rw (short, important) refl
-
-well_ended : (short important : Bool) (value : Option Value) → important ≡ true → cond (short || important) value None ≡ value
-well_ended true important value e = refl
-well_ended false important value e = rw e refl
-
-pub good_mark : (value : List ℕ) (mark : ℕ) → mark ≡ position_or_len is_mark value
-    → bytes_eq (without_back (drop (mark + 1) value)) (codes "important") ≡ true → value_after_colon value ≡ value_of (trimmed (take mark value))
-unfolding value_after_colon ends_well
-good_mark value mark at e =
-    let important : bytes_eq (without_back (drop (position_or_len is_mark value + 1) value)) (codes "important") ≡ true = rw (← at) e in
-    well_ended (nat_le (length value) (position_or_len is_mark value)) _ (value_of (trimmed (take (position_or_len is_mark value) value))) important
-    ∙ ap (λ (n : ℕ). value_of (trimmed (take n value))) (sym at)
-
-pub no_mark : (value : List ℕ) (mark : ℕ) → mark ≡ position_or_len is_mark value → length value ≤ mark
-    → value_after_colon value ≡ value_of (trimmed (take mark value))
-unfolding value_after_colon ends_well
-no_mark value mark at le =
-    let short : nat_le (length value) (position_or_len is_mark value) ≡ true = grind (arith, nat_tests) in
-    rw (short, at) refl
+pub after_colon_is : (text : List ℕ) → value_after_colon text ≡ value_of (trimmed (without_important text))
+unfolding value_after_colon
+after_colon_is text = refl
 
 -- ---- the colon
 
 nothing : value_after_colon [] ≡ None
-unfolding value_after_colon ends_well trimmed value_of value_in parts steps_of item_of is_plain is_number is_rgb is_name is_unit units
+unfolding value_after_colon trimmed value_of value_in parts steps_of item_of is_plain is_number is_rgb is_name is_unit units
 nothing = refl
 
 declaration_with-None : (property : Option (List ℕ)) → declaration_with property None ≡ None
@@ -69,11 +41,6 @@ unfolding declaration_of
 a_colon text colon at = rw (← at) refl
 
 -- ---- a declaration after others
-
-pub no_value : (style name value : List ℕ) (declaration : Option Declaration) (property : Option (List ℕ))
-    → declaration ≡ declaration_with property (value_after_colon value) → value_after_colon value ≡ None → style ≡ with_declaration style declaration
-no_value style name value declaration property is none =
-    sym (ap (with_declaration style) (is ∙ ap (declaration_with property) none ∙ declaration_with-None property))
 
 not_whole_value : (style property : List ℕ) (value : Option Value) → written_onto (property_onto style property) value ≡ None
     → with_declaration style (declaration_with (Some property) value) ≡ style
@@ -97,12 +64,12 @@ pub good_value : (style begun written property value : List ℕ) (declaration : 
 good_value style begun written property value declaration name after d n a b e =
     rw (d, n, a) (whole_value style property written (value_of value) (ap (λ (xs : List ℕ). written_onto xs (value_of value)) (sym b) ∙ e))
 
-property_onto-begins : (style property : List ℕ) → Begins style (property_onto style property)
+property_onto-begins : (style property : List ℕ) → BeginsWith style (property_onto style property)
 property_onto-begins [] property = begins_more [] [] (property ++ codes ": ") _ refl (begins_itself [])
 property_onto-begins (c ∷ more) property = begins_more (c ∷ more) (c ∷ more) (codes "; " ++ property ++ codes ": ") _ (simp append_assoc) (begins_itself (c ∷ more))
 
 -- what stood before a declaration that is dropped
-pub begins_rest : (style begun written property : List ℕ) → begun ≡ property_onto style property → Begins begun written
+pub begins_rest : (style begun written property : List ℕ) → begun ≡ property_onto style property → BeginsWith begun written
     → take (length style) written ≡ style
 begins_rest style begun written property b h =
     let first = property_onto-begins style property in

@@ -5,9 +5,9 @@ use Rattle.std.specs.List.{filter_map, flat_map, onto_first, cons_option}
 use Rattle.std.proofs.Math.Seq.{take-suc}
 use Rattle.std.proofs.lemmas.List.{append-nil, nil_from_length, length-drop, take_all}
 use Rattle.style_wash.specs.Cuts.{with_declaration}
-use Rattle.style_wash.specs.Declarations.{Declaration, declaration_of, declarations, ends_piece, pieces, style_of, stylewash, written}
-use Rattle.style_wash.specs.Values.{Place, place_after, written_value}
-use Rattle.style_wash.specs.Values.Place.{Outside}
+use Rattle.style_wash.specs.Declarations.{Declaration, declaration_of, declarations, is_piece_end, pieces, style_of, stylewash, written}
+use Rattle.style_wash.specs.Values.{Nesting, nesting_after, written_value}
+use Rattle.style_wash.specs.Values.Nesting.{Outside}
 
 -- a text before the first of pieces
 abbrev pub front_onto : List ℕ → List (List ℕ) → List (List ℕ)
@@ -18,16 +18,16 @@ front_onto-onto_first : (xs : List ℕ) (c : ℕ) (ps : List (List ℕ)) → fro
 front_onto-onto_first xs c [] = refl
 front_onto-onto_first xs c (piece ∷ more) = ap (λ (p : List ℕ). p ∷ more) (sym (append_assoc xs (c ∷ []) piece))
 
-pub pieces-within : (place : Place) (c : ℕ) (more : List ℕ) → ends_piece place c ≡ false
-    → pieces place (c ∷ more) ≡ onto_first c (pieces (place_after false place c) more)
+pub pieces-within : (place : Nesting) (c : ℕ) (more : List ℕ) → is_piece_end place c ≡ false
+    → pieces place (c ∷ more) ≡ onto_first c (pieces (nesting_after false place c) more)
 unfolding pieces
 pieces-within place c more e = rw e refl
 
-pub pieces-end : (place : Place) (c : ℕ) (more : List ℕ) → ends_piece place c ≡ true → pieces place (c ∷ more) ≡ [] ∷ pieces Outside more
+pub pieces-end : (place : Nesting) (c : ℕ) (more : List ℕ) → is_piece_end place c ≡ true → pieces place (c ∷ more) ≡ [] ∷ pieces Outside more
 unfolding pieces
 pieces-end place c more e = rw e refl
 
-pub pieces-nil : (place : Place) → pieces place [] ≡ [] ∷ []
+pub pieces-nil : (place : Nesting) → pieces place [] ≡ [] ∷ []
 unfolding pieces
 pieces-nil place = refl
 
@@ -39,26 +39,26 @@ pub front_onto-begun : (text : List ℕ) → front_onto [] (pieces Outside text)
 unfolding pieces
 front_onto-begun [] = refl
 front_onto-begun (c ∷ more) =
-    elim (ends_piece Outside c) as (λ v. front_onto [] (cond v ([] ∷ pieces Outside more) (onto_first c (pieces (place_after false Outside c) more))) ≡ cond v ([] ∷ pieces Outside more) (onto_first c (pieces (place_after false Outside c) more)))
-    [ true ↦ refl | false ↦ front_onto-nil_first c (pieces (place_after false Outside c) more) ]
+    elim (is_piece_end Outside c) as (λ v. front_onto [] (cond v ([] ∷ pieces Outside more) (onto_first c (pieces (nesting_after false Outside c) more))) ≡ cond v ([] ∷ pieces Outside more) (onto_first c (pieces (nesting_after false Outside c) more)))
+    [ true ↦ refl | false ↦ front_onto-nil_first c (pieces (nesting_after false Outside c) more) ]
 
-pub piece_goes_on : (place : Place) (text : List ℕ) (end : ℕ) → end < length text → ends_piece place (get_or text end 0) ≡ false
+pub piece_goes_on : (place : Nesting) (text : List ℕ) (end : ℕ) → end < length text → is_piece_end place (get_or text end 0) ≡ false
     → front_onto (take end text) (pieces place (drop end text))
-    ≡ front_onto (take (end + 1) text) (pieces (place_after false place (get_or text end 0)) (drop (end + 1) text))
+    ≡ front_onto (take (end + 1) text) (pieces (nesting_after false place (get_or text end 0)) (drop (end + 1) text))
 piece_goes_on place text end lt e =
     let c = get_or text end 0 in
     rw (add-one, drop-cons text end 0, take-suc text end 0)
     (ap (front_onto (take end text)) (pieces-within place c (drop (suc end) text) e)
-    ∙ front_onto-onto_first (take end text) c (pieces (place_after false place c) (drop (suc end) text)))
+    ∙ front_onto-onto_first (take end text) c (pieces (nesting_after false place c) (drop (suc end) text)))
 
-pub last_piece : (place : Place) (text : List ℕ) (end : ℕ) → end ≡ length text
+pub last_piece : (place : Nesting) (text : List ℕ) (end : ℕ) → end ≡ length text
     → front_onto (take end text) (pieces place (drop end text)) ≡ pieces Outside text → pieces Outside text ≡ text ∷ []
 last_piece place text end at is =
     let none : drop end text ≡ [] = nil_from_length (drop end text) (omega (arith, length-drop end text)) in
     sym is ∙ ap (λ (xs : List ℕ). front_onto (take end text) (pieces place xs)) none ∙ ap (front_onto (take end text)) (pieces-nil place)
     ∙ ap (λ (xs : List ℕ). xs ∷ []) (append-nil (take end text) ∙ take_all end text (omega arith))
 
-pub first_piece : (place : Place) (text : List ℕ) (end : ℕ) → end < length text → ends_piece place (get_or text end 0) ≡ true
+pub first_piece : (place : Nesting) (text : List ℕ) (end : ℕ) → end < length text → is_piece_end place (get_or text end 0) ≡ true
     → front_onto (take end text) (pieces place (drop end text)) ≡ pieces Outside text
     → pieces Outside text ≡ take end text ∷ pieces Outside (drop (end + 1) text)
 first_piece place text end lt e is =

@@ -1,24 +1,26 @@
 -- Washing a washed style changes nothing.
-use Rattle.std.proofs.Common.{◌≡◌, ℕ, ◌+◌, ◌-◌, Bool, true, false, not, ◌&&◌, ◌||◌, ◌==◌, cond, List, [], ◌∷◌, ◌++◌, length, map, take, drop, Option, Some, None, eq-eqb, refl, sym, subst, ap, ◌∙◌, arith, append_assoc}
+use Rattle.std.proofs.Common.{◌≡◌, ℕ, zero, suc, ◌+◌, ◌-◌, nat_eq, Bool, true, false, not, ◌&&◌, ◌||◌, ◌==◌, List, [], ◌∷◌, ◌++◌, length, map, take, drop, Option, Some, None, eq-eqb, refl, sym, subst, ap, ◌∙◌, arith, append_assoc}
 use Rattle.std.specs.Prelude.{codes}
 use Rattle.std.specs.Str.{bytes_eq, IsAscii}
 use Rattle.std.specs.List.{list_all, filter_map, cons_option, flat_map, onto_first, position_or_len, prefix_len, suffix_len, before_first, after_first, AllByRecursion}
+use Rattle.std.specs.Cmp.Lexicographic.{pointwise}
 use Rattle.std.proofs.lemmas.List.{append-nil, reverse-append, take_all, take-append-le}
 use Rattle.std.proofs.Math.Seq.{drop-append-add}
 use Rattle.std.proofs.lemmas.Str.Ascii.{IsAscii-from_all}
 use Rattle.std.proofs.lemmas.List.Sums.{AllPass-from_list_all}
 use Rattle.std.proofs.lemmas.Bool.{ltb-true}
-use Rattle.style_wash.specs.Characters.{is_colon, is_mark, is_style_char, is_white, trimmed, without_front, without_back}
+use Rattle.std.proofs.lemmas.Bool.Decides.{nat_tests}
+use Rattle.style_wash.specs.Characters.{is_colon, is_style_char, is_white, trimmed, without_front, without_back}
 use Rattle.style_wash.specs.Items.{written_item}
 use Rattle.style_wash.specs.Tables.{properties, property_of}
-use Rattle.style_wash.specs.Values.{Place, Separator, Step, Value, place_after, value_of, written_separator, written_step, written_value}
-use Rattle.style_wash.specs.Values.Place.{Outside, Until}
+use Rattle.style_wash.specs.Values.{Nesting, Separator, Step, Value, nesting_after, value_of, written_separator, written_step, written_value}
+use Rattle.style_wash.specs.Values.Nesting.{Outside, Until}
 use Rattle.style_wash.specs.Values.Separator.{Space, Comma, Slash}
-use Rattle.style_wash.specs.Declarations.{Declaration, IsDeclaration, IsStyle, is_style, calls_only_rgb, declaration_of, declaration_with, declarations, ends_piece, ends_well, pieces, style_of, style_pieces, stylewash, value_after_colon, written}
-use Rattle.style_wash.proofs.Calls.{CallsOnlyRgb, calls-append, calls_none, is_no_bracket}
+use Rattle.style_wash.specs.Declarations.{Declaration, IsDeclaration, IsStyle, is_style, calls_only_rgb, declaration_of, declaration_with, declarations, is_piece_end, important, pieces, style_of, style_pieces, stylewash, value_after_colon, without_important, written}
+use Rattle.style_wash.proofs.Calls.{CallsOnlyRgb, CallsOnlyRgbFirst, calls-append, calls_first-append, calls_none, calls_first, after_delimiter, is_no_bracket}
 use Rattle.style_wash.proofs.Facts.{and_true, or_false, all_append, all_wider, found_all, ascii_char, bytes_eq-true, is_safe, safe_char}
 use Rattle.style_wash.proofs.ItemFacts.{quiet, BeginsDark, EndsDark, not_true}
-use Rattle.style_wash.proofs.Marks.{no_colon, no_mark}
+use Rattle.style_wash.proofs.Marks.{no_colon, after_colon_is}
 use Rattle.style_wash.proofs.Pieces.{front_onto, front_onto-begun, pieces-end, pieces-nil, pieces-within}
 use Rattle.style_wash.proofs.Written.{GoodStep, GoodValue, good_value, quiet-append, value_of-written}
 
@@ -77,16 +79,16 @@ silent_steps (step ∷ steps) good =
     quiet-append Outside (written_step step) (flat_map written_step steps)
     (quiet-append Outside (written_separator step.separator) (written_item step.item) (silent_separator step.separator) good.0.item.silent) (silent_steps steps good.1)
 
-calls_separator : (separator : Separator) → CallsOnlyRgb (written_separator separator)
-calls_separator Space = calls_none (32 ∷ []) refl
-calls_separator Comma = calls_none (44 ∷ 32 ∷ []) refl
-calls_separator Slash = calls_none (47 ∷ []) refl
+calls_step : (separator : Separator) (text : List ℕ) → CallsOnlyRgbFirst text → CallsOnlyRgb (written_separator separator ++ text)
+calls_step Space text first = after_delimiter 32 text refl refl first
+calls_step Comma text first = after_delimiter 44 (32 ∷ text) refl refl (calls_first (32 ∷ text) (after_delimiter 32 text refl refl first))
+calls_step Slash text first = after_delimiter 47 text refl refl first
 
 calls_steps : (steps : List Step) → AllByRecursion GoodStep steps → CallsOnlyRgb (flat_map written_step steps)
 calls_steps [] good = calls_none [] refl
 calls_steps (step ∷ steps) good =
     calls-append (written_step step) (flat_map written_step steps)
-    (calls-append (written_separator step.separator) (written_item step.item) (calls_separator step.separator) good.0.item.calls) (calls_steps steps good.1)
+    (calls_step step.separator (written_item step.item) good.0.item.calls) (calls_steps steps good.1)
 
 -- what a written value is like
 record IsWrittenValue (text : List ℕ) (value : Value) : Type 0 where
@@ -95,7 +97,7 @@ record IsWrittenValue (text : List ℕ) (value : Value) : Type 0 where
   ends : EndsDark text
   safe : list_all is_safe text ≡ true
   silent : quiet Outside text ≡ true
-  calls : CallsOnlyRgb text
+  calls : CallsOnlyRgbFirst text
 
 written_is : (value : Value) → GoodValue value → IsWrittenValue (written_value value) value
 written_is value good =
@@ -108,21 +110,39 @@ written_is value good =
       ends = ends_steps item value.more good.first.ends good.more;
       safe = all_append is_safe item rest good.first.safe (safe_steps value.more good.more);
       silent = quiet-append Outside item rest good.first.silent (silent_steps value.more good.more);
-      calls = calls-append item rest good.first.calls (calls_steps value.more good.more);
+      calls = calls_first-append item rest good.first.calls (calls_steps value.more good.more);
     }
 
-no_mark_at : (text : List ℕ) → list_all is_safe text ≡ true → position_or_len is_mark text ≡ length text
-no_mark_at [] safe = refl
-no_mark_at (c ∷ more) safe =
+safe_drop : (n : ℕ) (text : List ℕ) → list_all is_safe text ≡ true → list_all is_safe (drop n text) ≡ true
+safe_drop zero text safe = safe
+safe_drop (suc n) [] safe = refl
+safe_drop (suc n) (c ∷ more) safe = safe_drop n more (and_true (is_safe c) (list_all is_safe more) safe).1
+
+safe_take : (n : ℕ) (text : List ℕ) → list_all is_safe text ≡ true → list_all is_safe (take n text) ≡ true
+safe_take zero text safe = refl
+safe_take (suc n) [] safe = refl
+safe_take (suc n) (c ∷ more) safe =
     let both = and_true (is_safe c) (list_all is_safe more) safe in
-    let mark = (safe_char c both.0).0 in
-    rw (mark, no_mark_at more both.1) (omega arith)
+    rw (both.0, safe_take n more both.1) refl
+
+not_important : (text : List ℕ) → list_all is_safe text ≡ true → pointwise nat_eq important text ≡ false
+not_important [] safe = refl
+not_important (c ∷ more) safe =
+    let mark = (safe_char c (and_true (is_safe c) (list_all is_safe more) safe).0).0 in
+    let other : nat_eq 33 c ≡ false = grind (arith, nat_tests) in
+    rw other refl
+
+-- a safe text has no `!`, so it keeps all it has
+keeps_all : (text : List ℕ) → list_all is_safe text ≡ true → without_important text ≡ text
+keeps_all text safe =
+    let back = without_back text in
+    let none = not_important (drop (length back - length important) back) (safe_drop (length back - length important) back (safe_take (length text - suffix_len is_white text) text safe)) in
+    rw none refl
 
 after_colon : (text : List ℕ) (value : Value) → IsWrittenValue text value → value_after_colon (32 ∷ text) ≡ Some value
 after_colon text value is =
-    let size = no_mark_at (32 ∷ text) is.safe in
-    no_mark (32 ∷ text) (length (32 ∷ text)) (sym size) (omega arith)
-    ∙ ap (λ (xs : List ℕ). value_of (trimmed xs)) (take_all (length (32 ∷ text)) (32 ∷ text) (omega arith))
+    after_colon_is (32 ∷ text)
+    ∙ ap (λ (xs : List ℕ). value_of (trimmed xs)) (keeps_all (32 ∷ text) is.safe)
     ∙ ap value_of (trimmed-space text is.begins is.ends) ∙ is.reads
 
 -- ---- properties
@@ -159,13 +179,9 @@ option_cases (Some property) None declaration e = absurd cc
 option_cases (Some property) (Some value) declaration e =
     (let same : property ≡ declaration.property = cc in ap (λ (x : List ℕ). Some x) same, let same : value ≡ declaration.value = cc in ap (λ (x : Value). Some x) same)
 
-ended_value : (ended : Bool) (text : List ℕ) (value : Value) → cond ended (value_of text) None ≡ Some value → GoodValue value
-ended_value true text value e = good_value text value e
-ended_value false text value e = absurd cc
-
 value_read : (text : List ℕ) (value : Value) → value_after_colon text ≡ Some value → GoodValue value
 unfolding value_after_colon
-value_read text value e = ended_value (ends_well text) (trimmed (before_first is_mark text)) value e
+value_read text value e = good_value (trimmed (without_important text)) value e
 
 good_declaration : (text : List ℕ) (declaration : Declaration) → declaration_of text ≡ Some declaration → IsGoodDeclaration declaration
 unfolding declaration_of
@@ -254,7 +270,7 @@ safe_written d good =
 
 -- ---- the pieces of a style
 
-no_end : (place : Place) (c : ℕ) → (c == 59) ≡ false → ends_piece place c ≡ false
+no_end : (place : Nesting) (c : ℕ) → (c == 59) ≡ false → is_piece_end place c ≡ false
 no_end Outside c e = e
 no_end (Until end) c e = refl
 
@@ -262,14 +278,14 @@ onto_first-front : (c : ℕ) (text : List ℕ) (ps : List (List ℕ)) → onto_f
 onto_first-front c text [] = refl
 onto_first-front c text (piece ∷ more) = refl
 
-pieces-quiet : (place : Place) (text rest : List ℕ) → quiet place text ≡ true → pieces place (text ++ rest) ≡ front_onto text (pieces Outside rest)
+pieces-quiet : (place : Nesting) (text rest : List ℕ) → quiet place text ≡ true → pieces place (text ++ rest) ≡ front_onto text (pieces Outside rest)
 unfolding quiet
 pieces-quiet Outside [] rest h = sym (front_onto-begun rest)
 pieces-quiet (Until end) [] rest h = absurd cc
 pieces-quiet place (c ∷ more) rest h =
-    let both = and_true (not (c == 59)) (quiet (place_after false place c) more) h in
+    let both = and_true (not (c == 59)) (quiet (nesting_after false place c) more) h in
     pieces-within place c (more ++ rest) (no_end place c (not_true (c == 59) both.0))
-    ∙ ap (onto_first c) (pieces-quiet (place_after false place c) more rest both.1)
+    ∙ ap (onto_first c) (pieces-quiet (nesting_after false place c) more rest both.1)
     ∙ onto_first-front c more (pieces Outside rest)
 
 pieces-more : (all : List Declaration) → AllByRecursion IsGoodDeclaration all
@@ -375,7 +391,7 @@ calls_written : (d : Declaration) → IsGoodDeclaration d → CallsOnlyRgb (writ
 calls_written d good =
     subst CallsOnlyRgb (sym (written-text d))
     (calls-append d.property (58 ∷ 32 ∷ written_value d.value) (calls_none d.property (known_is d.property good.property).no_bracket)
-    (calls-append (58 ∷ 32 ∷ []) (written_value d.value) (calls_none (58 ∷ 32 ∷ []) refl) (written_is d.value good.value).calls))
+    (after_delimiter 58 (32 ∷ written_value d.value) refl refl (calls_first (32 ∷ written_value d.value) (after_delimiter 32 (written_value d.value) refl refl (written_is d.value good.value).calls))))
 
 calls_more : (all : List Declaration) → AllByRecursion IsGoodDeclaration all → CallsOnlyRgb (flat_map (λ d. codes "; " ++ written d) all)
 calls_more [] good = calls_none [] refl
@@ -388,9 +404,9 @@ unfolding style_of
 calls_style [] good = calls_none [] refl
 calls_style (d ∷ all) good = calls-append (written d) (flat_map (λ d. codes "; " ++ written d) all) (calls_written d good.0) (calls_more all good.1)
 
-pub washed_calls_only_rgb : (text : List ℕ) → calls_only_rgb 0 0 0 (stylewash text) ≡ true
+pub washed_calls_only_rgb : (text : List ℕ) → calls_only_rgb [] (stylewash text) ≡ true
 unfolding stylewash
-washed_calls_only_rgb text = (calls_style (declarations text) (good_declarations text)).whatever 0 0 0
+washed_calls_only_rgb text = (calls_style (declarations text) (good_declarations text)).whatever []
 
 -- ---- the test of a style
 
@@ -403,9 +419,9 @@ unfolding stylewash
 stays text all each is =
     ap (λ (xs : List ℕ). style_of (declarations xs)) is ∙ ap style_of (styles_are_kept all each).1 ∙ sym is
 
-pub styles_are_settled : (text : List ℕ) → (IsStyle text → is_style text ≡ true) × (is_style text ≡ true → IsStyle text)
+pub styles_are_fixed_points : (text : List ℕ) → (IsStyle text → is_style text ≡ true) × (is_style text ≡ true → IsStyle text)
 unfolding is_style
-styles_are_settled text = (
+styles_are_fixed_points text = (
   λ style. ap (λ (xs : List ℕ). bytes_eq xs text) (stays text style.all style.each style.is) ∙ same_text text,
   λ same. subst IsStyle (bytes_eq-true (stylewash text) text same) (washed_is_style text),
 )

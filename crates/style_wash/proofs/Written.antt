@@ -4,8 +4,8 @@ use Rattle.std.specs.List.{flat_map, AllByRecursion}
 use Rattle.std.proofs.lemmas.List.{append-nil}
 use Rattle.style_wash.specs.Characters.{trimmed}
 use Rattle.style_wash.specs.Items.{Item, item_of, written_item}
-use Rattle.style_wash.specs.Values.{Place, Parts, Gapped, Separator, Step, Value, parts, with_gap, separates, place_after, separator_of, step_onto, steps_of, value_in, value_of, value_onto, written_separator, written_step, written_value}
-use Rattle.style_wash.specs.Values.Place.{Outside, Until}
+use Rattle.style_wash.specs.Values.{Nesting, Parts, Gapped, Separator, Step, Value, parts, with_gap, is_item_end, nesting_after, separator_of, step_onto, steps_of, value_in, value_of, value_onto, written_separator, written_step, written_value}
+use Rattle.style_wash.specs.Values.Nesting.{Outside, Until}
 use Rattle.style_wash.specs.Values.Separator.{Space, Comma, Slash}
 use Rattle.style_wash.proofs.Cuts.{text_onto, parts-text, parts-gap, parts-nil}
 use Rattle.style_wash.proofs.Facts.{and_true}
@@ -69,22 +69,22 @@ good_value text value e =
 
 -- ---- walks over texts in a row
 
-parts-holds : (place : Place) (text rest : List ℕ) → holds place text ≡ true → parts place (text ++ rest) ≡ text_onto text (parts Outside rest)
+parts-holds : (place : Nesting) (text rest : List ℕ) → holds place text ≡ true → parts place (text ++ rest) ≡ text_onto text (parts Outside rest)
 unfolding holds
 parts-holds Outside [] rest h = refl
 parts-holds (Until end) [] rest h = absurd cc
 parts-holds place (c ∷ more) rest h =
-    let both = and_true (not (separates place c)) (holds (place_after true place c) more) h in
-    parts-text place c (more ++ rest) (not_true (separates place c) both.0)
-    ∙ ap (λ (ps : Parts). let p : Parts = record { first = c ∷ ps.first; more = ps.more } in p) (parts-holds (place_after true place c) more rest both.1)
+    let both = and_true (not (is_item_end place c)) (holds (nesting_after true place c) more) h in
+    parts-text place c (more ++ rest) (not_true (is_item_end place c) both.0)
+    ∙ ap (λ (ps : Parts). let p : Parts = record { first = c ∷ ps.first; more = ps.more } in p) (parts-holds (nesting_after true place c) more rest both.1)
 
-pub quiet-append : (place : Place) (xs ys : List ℕ) → quiet place xs ≡ true → quiet Outside ys ≡ true → quiet place (xs ++ ys) ≡ true
+pub quiet-append : (place : Nesting) (xs ys : List ℕ) → quiet place xs ≡ true → quiet Outside ys ≡ true → quiet place (xs ++ ys) ≡ true
 unfolding quiet
 quiet-append Outside [] ys a b = b
 quiet-append (Until end) [] ys a b = absurd cc
 quiet-append place (c ∷ xs) ys a b =
-    let both = and_true (not (c == 59)) (quiet (place_after false place c) xs) a in
-    rw (both.0, quiet-append (place_after false place c) xs ys both.1 b) refl
+    let both = and_true (not (c == 59)) (quiet (nesting_after false place c) xs) a in
+    rw (both.0, quiet-append (nesting_after false place c) xs ys both.1 b) refl
 
 -- ---- the parts of a written value
 

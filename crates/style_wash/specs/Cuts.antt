@@ -1,8 +1,8 @@
--- How a text is cut step by step.
+-- The steps in which a text is cut.
 use Rattle.std.specs.Prelude.{◌≡◌, ◌≤◌, ◌<◌, ℕ, Bool, true, List, [], ◌∷◌, ◌++◌, length, take, Option, Some, None, codes}
 use Rattle.style_wash.specs.Characters.{is_separator}
 use Rattle.style_wash.specs.Values.{parts, Value, written_value}
-use Rattle.style_wash.specs.Values.Place.{Outside}
+use Rattle.style_wash.specs.Values.Nesting.{Outside}
 use Rattle.style_wash.specs.Declarations.{Declaration}
 
 -- a text is empty, or begins with a separator
@@ -10,28 +10,28 @@ abbrev pub begins_gap : List ℕ → Bool
 begins_gap [] = true
 begins_gap (c ∷ more) = is_separator c
 
--- a value begins with a text that has no gap, and then the rest comes
+-- a value is a text without a gap, and a rest
 pub record IsTextAndRest (value text rest : List ℕ) : Type 0 where
   pub parts_are : parts Outside value ≡ record { first = text; more = (parts Outside rest).more }
   pub gap : begins_gap rest ≡ true
   pub bound : length rest ≤ length value
 
--- a text begins with a gap, and then the rest comes
+-- a text is a gap, and a rest
 pub record IsGapAndRest (text gap rest : List ℕ) : Type 0 where
   pub parts_are : (parts Outside text).more ≡ record { gap = gap; text = (parts Outside rest).first } ∷ (parts Outside rest).more
   pub bound : length rest < length text
 
--- a text stands at the front of another
-pub record Begins (front text : List ℕ) : Type 0 where
+-- a text begins with another
+pub record BeginsWith (front text : List ℕ) : Type 0 where
   pub bound : length front ≤ length text
   pub is : take (length front) text ≡ front
 
--- a text with a value written after it
+-- a text with a value appended
 abbrev pub written_onto : List ℕ → Option Value → Option (List ℕ)
 written_onto front None = None
 written_onto front (Some value) = Some (front ++ written_value value)
 
--- a property after the declarations of a style
+-- a style with a property appended
 abbrev pub property_onto : List ℕ → List ℕ → List ℕ
 property_onto [] property = property ++ codes ": "
 property_onto (c ∷ more) property = (c ∷ more) ++ codes "; " ++ property ++ codes ": "

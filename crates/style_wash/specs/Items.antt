@@ -2,7 +2,7 @@
 use Rattle.std.specs.Prelude.{ℕ, ◌+◌, ◌-◌, ◌*◌, ◌==◌, nat_eq, nat_le, nat_lt, Bool, false, not, ◌&&◌, ◌||◌, if◌then◌else◌, List, [], ◌∷◌, ◌++◌, length, drop, slice_index, slice_range, count_by, codes, Option, Some, None}
 use Rattle.std.specs.Char.{is_ascii_hexdigit}
 use Rattle.std.specs.List.{list_all, starts_with, position_or_len, before_first, slice_split}
-use Rattle.style_wash.specs.Characters.{is_digit, is_letter, is_word_char, is_name_char, is_quote, is_comma, is_point}
+use Rattle.style_wash.specs.Characters.{number_sign, apostrophe, right_parenthesis, digit_zero, is_digit, is_letter, is_word_char, is_name_char, is_quote, is_comma, is_point}
 use Rattle.style_wash.specs.Tables.{is_unit}
 
 -- a letter, and then letters, digits and `-`
@@ -14,11 +14,11 @@ is_word (c ∷ more) = is_letter c && list_all is_word_char more
 abbrev pub is_digits : List ℕ → Bool
 is_digits text = nat_lt 0 (length text) && list_all is_digit text
 
--- digits, or digits `.` digits, of 8 characters at most
+-- digits, or digits `.` digits, in at most 8 characters
 abbrev pub is_decimal : List ℕ → Bool
 is_decimal text = nat_le (length text) 8 && nat_le (count_by is_point text) 1 && list_all is_digits (slice_split is_point text)
 
--- neither a digit nor `.`: here the unit of a number begins
+-- the unit of a number begins at the first character that is no digit and no `.`
 abbrev pub begins_unit : ℕ → Bool
 begins_unit c = not (is_digit c || is_point c)
 
@@ -29,13 +29,13 @@ is_number text = is_decimal (before_first begins_unit text) && is_unit (drop (po
 -- `#` and 3 or 6 hexadecimal digits
 abbrev pub is_hex_colour : List ℕ → Bool
 is_hex_colour [] = false
-is_hex_colour (c ∷ digits) = (c == 35) && (length digits == 3 || length digits == 6) && list_all is_ascii_hexdigit digits
+is_hex_colour (c ∷ digits) = (c == number_sign) && (length digits == 3 || length digits == 6) && list_all is_ascii_hexdigit digits
 
 -- the number of three digits
 abbrev pub three_digits : ℕ → ℕ → ℕ → ℕ
-three_digits a b c = (a - 48) * 100 + (b - 48) * 10 + (c - 48)
+three_digits a b c = (a - digit_zero) * 100 + (b - digit_zero) * 10 + (c - digit_zero)
 
--- 1 to 3 digits that are 255 at most
+-- 1 to 3 digits, at most 255
 abbrev pub is_level : List ℕ → Bool
 is_level [] = false
 is_level (a ∷ []) = is_digit a
@@ -43,7 +43,7 @@ is_level (a ∷ b ∷ []) = is_digit a && is_digit b
 is_level (a ∷ b ∷ c ∷ []) = is_digit a && is_digit b && is_digit c && nat_le (three_digits a b c) 255
 is_level (a ∷ b ∷ c ∷ d ∷ more) = false
 
--- three numbers of 0 to 255, with a comma between two
+-- three numbers from 0 to 255, with a comma between each two
 abbrev pub are_levels : List ℕ → Bool
 are_levels text = (count_by is_comma text == 2) && list_all is_level (slice_split is_comma text)
 
@@ -53,9 +53,9 @@ last text = slice_index text (length text - 1)
 
 -- `rgb(n,n,n)`
 unfoldable pub is_rgb : List ℕ → Bool
-is_rgb text = starts_with nat_eq text (codes "rgb(") && nat_le 5 (length text) && (last text == 41) && are_levels (slice_range text 4 (length text - 1))
+is_rgb text = starts_with nat_eq text (codes "rgb(") && nat_le 5 (length text) && (last text == right_parenthesis) && are_levels (slice_range text 4 (length text - 1))
 
--- what stands between the first and the last character
+-- a text without its first and last character
 abbrev pub inner : List ℕ → List ℕ
 inner text = slice_range text 1 (length text - 1)
 
@@ -68,7 +68,7 @@ is_name text = is_quote (slice_index text 0) && nat_le 3 (length text) && nat_le
 unfoldable pub is_plain : List ℕ → Bool
 is_plain text = is_word text || is_number text || is_hex_colour text || is_rgb text
 
--- An item: a word, a number or a colour, as it stands, or a quoted name without its quotes.
+-- an item: a word, a number or a colour as written, or a quoted name without its quotes
 pub data Item : Type 0 where
   Plain : List ℕ → Item
   Name : List ℕ → Item
@@ -79,7 +79,7 @@ item_of text = if is_plain text then Some (Plain text)
     else if is_name text then Some (Name (inner text))
     else None
 
--- how an item is written
+-- the written form of an item
 abbrev pub written_item : Item → List ℕ
 written_item (Plain text) = text
-written_item (Name name) = 39 ∷ name ++ 39 ∷ []
+written_item (Name name) = apostrophe ∷ name ++ apostrophe ∷ []

@@ -1,25 +1,25 @@
--- What the values of the code stand for.
+-- The values of the definition that the code's values represent.
 use Rattle.std.specs.Prelude.{ℕ, List, map}
 use Rattle.std.specs.Borrow.{Bor}
 use Rattle.style_wash.specs.declared.items.Item as item
 use Rattle.style_wash.specs.declared.items.Item.TheVariants as item_variant
-use Rattle.style_wash.specs.declared.values.Place as place
-use Rattle.style_wash.specs.declared.values.Place.TheVariants as place_variant
+use Rattle.style_wash.specs.declared.values.Nesting as place
+use Rattle.style_wash.specs.declared.values.Nesting.TheVariants as nesting_variant
 use Rattle.style_wash.specs.declared.values.Separator as separator
 use Rattle.style_wash.specs.declared.values.Separator.TheVariants as separator_variant
 use Rattle.style_wash.specs.Items.{Item}
 use Rattle.style_wash.specs.Items.Item.{Plain, Name}
-use Rattle.style_wash.specs.Values.{Place, Separator}
-use Rattle.style_wash.specs.Values.Place.{Outside, Until}
+use Rattle.style_wash.specs.Values.{Nesting, Separator}
+use Rattle.style_wash.specs.Values.Nesting.{Outside, Until}
 use Rattle.style_wash.specs.Values.Separator.{Space, Comma, Slash}
 
 abbrev pub item_seen : item.Item → Item
 item_seen (item_variant.Plain text) = Plain text.now
 item_seen (item_variant.Name text) = Name text.now
 
-abbrev pub place_seen : place.Place → Place
-place_seen place_variant.Outside = Outside
-place_seen (place_variant.Until end) = Until end
+abbrev pub nesting_seen : place.Nesting → Nesting
+nesting_seen nesting_variant.Outside = Outside
+nesting_seen (nesting_variant.Until end) = Until end
 
 abbrev pub separator_seen : separator.Separator → Separator
 separator_seen separator_variant.Space = Space

@@ -1,23 +1,23 @@
 -- Values: items with separators between them.
 use Rattle.std.specs.Prelude.{ℕ, zero, suc, ◌==◌, Bool, true, false, ◌&&◌, if◌then◌else◌, List, [], ◌∷◌, ◌++◌, Option, Some, None}
 use Rattle.std.specs.List.{flat_map}
-use Rattle.style_wash.specs.Characters.{is_quote, is_separator, trimmed}
+use Rattle.style_wash.specs.Characters.{space, left_parenthesis, right_parenthesis, comma, solidus, is_quote, is_separator, trimmed}
 use Rattle.style_wash.specs.Items.{Item, item_of, written_item}
 
 -- ---- quotes and brackets
 
--- Where a character stands: outside of quotes and brackets, or inside, up to the character that ends it.
-pub data Place : Type 0 where
-  Outside : Place
-  Until : ℕ → Place
+-- where a character is: outside of quotes and brackets, or inside, up to the character that ends them
+pub data Nesting : Type 0 where
+  Outside : Nesting
+  Until : ℕ → Nesting
 
--- the place after a character that stands outside. Brackets count only where it is said
-abbrev pub opened : Bool → ℕ → Place
-opened brackets c = if is_quote c then Until c else if brackets && (c == 40) then Until 41 else Outside
+-- the nesting after a character outside; brackets count only if `brackets` is true
+abbrev pub nesting_from_outside : Bool → ℕ → Nesting
+nesting_from_outside brackets c = if is_quote c then Until c else if brackets && (c == left_parenthesis) then Until right_parenthesis else Outside
 
-abbrev pub place_after : Bool → Place → ℕ → Place
-place_after brackets Outside c = opened brackets c
-place_after brackets (Until end) c = if c == end then Outside else Until end
+abbrev pub nesting_after : Bool → Nesting → ℕ → Nesting
+nesting_after brackets Outside c = nesting_from_outside brackets c
+nesting_after brackets (Until end) c = if c == end then Outside else Until end
 
 -- ---- the texts of items, and the gaps between them
 
@@ -42,18 +42,18 @@ with_gap c [] (next ∷ more) = record { first = []; more = record { gap = c ∷
 with_gap c (d ∷ text) more = record { first = []; more = record { gap = c ∷ []; text = d ∷ text } ∷ more }
 
 -- white space, `,` and `/` separate items outside of quotes and brackets
-abbrev pub separates : Place → ℕ → Bool
-separates Outside c = is_separator c
-separates (Until end) c = false
+abbrev pub is_item_end : Nesting → ℕ → Bool
+is_item_end Outside c = is_separator c
+is_item_end (Until end) c = false
 
-abbrev pub parts_on : Bool → ℕ → Parts → Parts → Parts
-parts_on separating c after within =
+abbrev pub parts_with : Bool → ℕ → Parts → Parts → Parts
+parts_with separating c after within =
     if separating then with_gap c after.first after.more else with_text c within
 
--- the parts of a text that begins at a place
-unfoldable pub parts : Place → List ℕ → Parts
+-- the parts of a text from a nesting on
+unfoldable pub parts : Nesting → List ℕ → Parts
 parts place [] = record { first = []; more = [] }
-parts place (c ∷ more) = parts_on (separates place c) c (parts Outside more) (parts (place_after true place c) more)
+parts place (c ∷ more) = parts_with (is_item_end place c) c (parts Outside more) (parts (nesting_after true place c) more)
 
 -- ---- values
 
@@ -64,17 +64,17 @@ pub data Separator : Type 0 where
 
 abbrev pub separator_in : List ℕ → Option Separator
 separator_in [] = Some Space
-separator_in (c ∷ []) = if c == 44 then Some Comma else if c == 47 then Some Slash else None
+separator_in (c ∷ []) = if c == comma then Some Comma else if c == solidus then Some Slash else None
 separator_in (c ∷ d ∷ more) = None
 
--- the separator that a gap is: white space alone, or one `,` or one `/` with white space around
+-- the separator that a gap is: white space alone, or one `,` or `/` with white space around
 unfoldable pub separator_of : List ℕ → Option Separator
 separator_of gap = separator_in (trimmed gap)
 
 abbrev pub written_separator : Separator → List ℕ
-written_separator Space = 32 ∷ []
-written_separator Comma = 44 ∷ 32 ∷ []
-written_separator Slash = 47 ∷ []
+written_separator Space = space ∷ []
+written_separator Comma = comma ∷ space ∷ []
+written_separator Slash = solidus ∷ []
 
 -- an item with the separator before it
 pub record Step : Type 0 where
@@ -91,7 +91,7 @@ step_onto (Some separator) (Some item) None = None
 step_onto (Some separator) None more = None
 step_onto None item more = None
 
--- the items after the first, of which there are so many at most
+-- the items after the first, of which there are at most n
 unfoldable pub steps_of : ℕ → List Gapped → Option (List Step)
 steps_of n [] = Some []
 steps_of zero (part ∷ more) = None
@@ -102,11 +102,11 @@ value_onto (Some first) (Some more) = Some (record { first = first; more = more 
 value_onto (Some first) None = None
 value_onto None more = None
 
--- the value that parts are, with so many items after the first at most
+-- the value that parts are, with at most n items after the first
 unfoldable pub value_in : ℕ → Parts → Option Value
 value_in n parts = value_onto (item_of parts.first) (steps_of n parts.more)
 
--- the value that a text without white space around is: 1 to 16 items
+-- the value that a text is, without white space around: 1 to 16 items
 unfoldable pub value_of : List ℕ → Option Value
 value_of text = value_in 15 (parts Outside text)
 

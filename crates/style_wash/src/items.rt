@@ -10,7 +10,7 @@ use crate::characters::{is_digit, is_letter, is_name_char, is_quote, is_word_cha
 use crate::tables::is_unit;
 use std::alloc::AllocError as Memory;
 
-/// An item as a declaration has it: a word, a number or a colour, as it stands, or a quoted name without its quotes.
+/// An item of a declaration: a word, a number or a colour as written, or a quoted name without its quotes.
 #[derive(Clone, Copy)]
 pub enum Item<'a> {
     Plain(&'a [u8]),
@@ -29,7 +29,7 @@ pub fn read_item(text: &[u8]) -> Option<Item<'_>>
     }
 }
 
-/// Writes an item, a name between two `'`.
+/// Appends an item; a name is in single quotes.
 pub fn push_item(item: Item<'_>, written: &mut Vec<u8>) -> Result<(), Memory>
     ensures { OnOk result (written.new.items ≡ written.old.items ++ written_item (item_seen item.entry)) }
 {
@@ -67,7 +67,7 @@ fn is_digits(text: &[u8]) -> bool
     !text.is_empty() && are_all_digits(text)
 }
 
-// Digits, or digits `.` digits, of 8 characters at most.
+// Digits, or digits `.` digits, in at most 8 characters.
 fn is_decimal(text: &[u8]) -> bool
     ensures { result ≡ is_decimal text.now }
 {
@@ -85,7 +85,7 @@ fn begins_unit(c: u8) -> bool
 fn is_number(text: &[u8]) -> bool
     ensures { result ≡ is_number text.now }
 {
-    let end = place_of_unit(text);
+    let end = unit_offset(text);
     is_decimal(&text[..end]) && is_unit(&text[end..])
 }
 
@@ -101,7 +101,7 @@ fn is_hex_colour(text: &[u8]) -> bool
     }
 }
 
-// 1 to 3 digits that are 255 at most.
+// 1 to 3 digits, at most 255.
 fn is_level(digits: &[u8]) -> bool
     ensures { result ≡ is_level digits.now }
 {
@@ -205,10 +205,10 @@ fn are_runs_of_levels(text: &[u8]) -> bool
     text.split(|c| *c == b',').all(|digits| is_level(digits))
 }
 
-// Where the unit begins, or the end.
-fn place_of_unit(text: &[u8]) -> usize
-    ensures place { result ≡ position_or_len begins_unit text.now }
-    ensures bound { result ≤ length text.now }
+// The offset of the unit, or the length.
+fn unit_offset(text: &[u8]) -> usize
+    ensures equals { result ≡ position_or_len begins_unit text.now }
+    ensures within { result ≤ length text.now }
 {
     let mut end = 0;
     while end < text.len() && !begins_unit(text[end]) {

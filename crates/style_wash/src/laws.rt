@@ -1,7 +1,7 @@
 //! Laws of the definitions, each the contract of a function that does nothing.
-ghost use Rattle.style_wash.specs.Declarations.{StylesAreKept, StylesAreSettled, WashedCallsOnlyRgb, WashedCharacters, WashedIsStyle, WashingIsIdempotent};
+ghost use Rattle.style_wash.specs.Declarations.{StylesAreKept, StylesAreFixedPoints, WashedCallsOnlyRgb, WashedCharacters, WashedIsStyle, WashingIsIdempotent};
 
-/// What a washed style is washed into is that style.
+/// Washing a washed style changes nothing.
 pub fn washing_is_idempotent()
     ensures { WashingIsIdempotent }
 {}
@@ -11,24 +11,24 @@ pub fn washed_is_style()
     ensures { WashedIsStyle }
 {}
 
-/// A style of declarations is cut into exactly their written forms, and reads as exactly these declarations: washing it
-/// drops none, adds none and changes none.
+/// A style that is made of declarations is cut into exactly their written forms, and reads as exactly these declarations. Washing it drops
+/// none, adds none and changes none.
 pub fn styles_are_kept()
     ensures { StylesAreKept }
 {}
 
-/// The styles are exactly the texts that washing leaves as they are.
-pub fn styles_are_settled()
-    ensures { StylesAreSettled }
+/// A text is a style if and only if washing leaves it unchanged.
+pub fn styles_are_fixed_points()
+    ensures { StylesAreFixedPoints }
 {}
 
-/// A washed style has letters, digits, spaces and a few marks of its own: it can't end the attribute that it stands in, and
-/// holds no escape, no comment and no at-rule.
+/// A washed style has letters, digits, spaces and a few other characters. It cannot end its attribute, and has no escape, no comment and no
+/// at-rule.
 pub fn washed_characters()
     ensures { WashedCharacters }
 {}
 
-/// A washed style names no function but `rgb`, so it loads nothing by `url(` and runs nothing by `expression(`.
+/// A washed style calls no function but `rgb`, by its whole name. So it loads nothing by `url(` and runs nothing by `expression(`.
 pub fn washed_calls_only_rgb()
     ensures { WashedCallsOnlyRgb }
 {}

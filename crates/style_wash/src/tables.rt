@@ -55,15 +55,15 @@ const UNITS: [&str; 11] = [
     "", "px", "pt", "em", "rem", "ex", "%", "cm", "mm", "in", "pc",
 ];
 
-/// The property that a text names, with its letters in either case and white space around.
+/// The property that a text names, whatever the case of its letters and the white space around it.
 pub fn property(text: &[u8]) -> Option<&'static str>
     ensures { MatchOption result (property_of text.now ≡ None) (λ name. property_of text.now ≡ Some name.now) }
 {
-    named(&PROPERTIES, trim(text))
+    find_ignore_case(&PROPERTIES, trim(text))
 }
 
-// The first of the texts that is `name` with its letters in either case.
-fn named(texts: &'static [&'static str], name: &[u8]) -> Option<&'static str>
+// The first of the texts that equals `name`, if case is ignored.
+fn find_ignore_case(texts: &'static [&'static str], name: &[u8]) -> Option<&'static str>
     ensures { MatchOption result
         (find (str_eq_ignore_ascii_case name.now) (texts_seen texts.now) ≡ None)
         (λ text. find (str_eq_ignore_ascii_case name.now) (texts_seen texts.now) ≡ Some text.now) }
@@ -89,10 +89,10 @@ fn is_named(name: &[u8], text: &str) -> bool
 pub fn is_unit(text: &[u8]) -> bool
     ensures { result ≡ is_unit text.now }
 {
-    is_among(&UNITS, text)
+    contains_text(&UNITS, text)
 }
 
-fn is_among(texts: &'static [&'static str], text: &[u8]) -> bool
+fn contains_text(texts: &'static [&'static str], text: &[u8]) -> bool
     ensures { result ≡ list_any (bytes_eq text.now) (texts_seen texts.now) }
 {
     let mut rest = texts;

@@ -1,29 +1,29 @@
 //! Values: items with separators between them.
 ghost use Rattle.std.specs.Prelude.{◌≡◌, ◌++◌, ◌<◌, if◌then◌else◌, true, IfOk, MatchOption, None, OnOk, Some, length};
-ghost use Rattle.style_wash.specs.Values.{opened, parts, separator_in, place_after, separates, separator_in, separator_of, value_of, written_separator};
-ghost use Rattle.style_wash.specs.Seen.{item_seen, place_seen, separator_seen};
-ghost use Rattle.style_wash.specs.Cuts.{Begins, IsGapAndRest, IsTextAndRest, begins_gap, written_onto};
+ghost use Rattle.style_wash.specs.Values.{nesting_from_outside, parts, separator_in, nesting_after, is_item_end, separator_in, separator_of, value_of, written_separator};
+ghost use Rattle.style_wash.specs.Seen.{item_seen, nesting_seen, separator_seen};
+ghost use Rattle.style_wash.specs.Cuts.{BeginsWith, IsGapAndRest, IsTextAndRest, begins_gap, written_onto};
 
 use crate::characters::{is_quote, is_separator, trim};
 use crate::items::{push_item, read_item};
 use std::alloc::AllocError as Memory;
 
-/// Where a character stands: outside of quotes and brackets, or inside, up to the character that ends it.
+/// Where a character is: outside of quotes and brackets, or inside, up to the character that ends them.
 #[derive(Clone, Copy)]
-pub enum Place {
+pub enum Nesting {
     Outside,
     Until(u8),
 }
 
-/// The place after a character. Brackets count only where it is said.
-pub fn place_after(brackets: bool, place: Place, c: u8) -> Place
-    ensures { place_seen result ≡ place_after brackets (place_seen place) c }
+/// The nesting after a character. Brackets count only if `brackets` is set.
+pub fn nesting_after(brackets: bool, place: Nesting, c: u8) -> Nesting
+    ensures { nesting_seen result ≡ nesting_after brackets (nesting_seen place) c }
 {
     match place {
-        Place::Outside if is_quote(c) => Place::Until(c),
-        Place::Outside if brackets && c == b'(' => Place::Until(b')'),
-        Place::Until(end) if c != end => place,
-        _ => Place::Outside,
+        Nesting::Outside if is_quote(c) => Nesting::Until(c),
+        Nesting::Outside if brackets && c == b'(' => Nesting::Until(b')'),
+        Nesting::Until(end) if c != end => place,
+        _ => Nesting::Outside,
     }
 }
 
@@ -64,29 +64,29 @@ fn push_separator(separator: Separator, written: &mut Vec<u8>) -> Result<(), Mem
     Ok(())
 }
 
-// The text up to the first separator outside of quotes and brackets, and what comes from there on.
+// Splits before the first separator outside of quotes and brackets.
 fn split_text(value: &[u8]) -> (&[u8], &[u8])
     ensures { IsTextAndRest value.now result.0.now result.1.now }
 {
-    let mut place = Place::Outside;
+    let mut place = Nesting::Outside;
     let mut end = 0;
-    while end < value.len() && !separates(place, value[end]) {
-        place = place_after(true, place, value[end]);
+    while end < value.len() && !is_item_end(place, value[end]) {
+        place = nesting_after(true, place, value[end]);
         end += 1;
     }
     (&value[..end], &value[end..])
 }
 
-fn separates(place: Place, c: u8) -> bool
-    ensures { result ≡ separates (place_seen place) c }
+fn is_item_end(place: Nesting, c: u8) -> bool
+    ensures { result ≡ is_item_end (nesting_seen place) c }
 {
     match place {
-        Place::Outside => is_separator(c),
-        Place::Until(_) => false,
+        Nesting::Outside => is_separator(c),
+        Nesting::Until(_) => false,
     }
 }
 
-// The separators that a text begins with, and what comes after them.
+// Splits after the separators at the front of a text.
 fn split_gap(text: &[u8]) -> (&[u8], &[u8])
     requires some { 0 < length text.now }
     requires gap { begins_gap text.now ≡ true }
@@ -101,9 +101,9 @@ fn split_gap(text: &[u8]) -> (&[u8], &[u8])
 
 const MORE_ITEMS: usize = 15;
 
-/// Writes a value, and says whether the text is one. Where it is none, a part of it may be written.
+/// Appends a value, and returns whether the text is one. If it is none, a part of it may have been appended.
 pub fn push_value(value: &[u8], written: &mut Vec<u8>) -> Result<bool, Memory>
-    ensures kept { IfOk result (λ whole. Begins written.old.items written.new.items) }
+    ensures kept { IfOk result (λ whole. BeginsWith written.old.items written.new.items) }
     ensures value { IfOk result (λ whole.
         written_onto written.old.items (value_of value.now) ≡ (if whole then Some written.new.items else None)) }
 {

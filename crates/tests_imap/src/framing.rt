@@ -2,7 +2,8 @@ use imap_framing::{Memory, TooLong, UnitReader, one_split, plain_lines, units_of
 use std::alloc::Global;
 use std::test::Fail;
 
-/// What a stream gives, fed whole: each unit without its last CR LF, with `|` behind it, and then `..` or `too long at` and the place.
+/// The units of a stream that is fed whole, each without its last CR LF and with `|` after it, and then `..`, or `too long at` and an
+/// offset.
 fn shown(alloc: Global, stream: &[u8]) -> Result<String, Memory> {
     let mut reader = UnitReader::new(alloc);
     let mut text = String::new(alloc);

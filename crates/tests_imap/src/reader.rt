@@ -47,7 +47,7 @@ fn fetched(alloc: Global, number: u32, items: &Items) -> Result<String, Memory> 
     Ok(text)
 }
 
-/// What `next` answers, in a few words.
+/// The result of `next` in a few words.
 fn next(alloc: Global, reader: &mut Reader) -> Result<String, Memory> {
     match reader.next() {
         Ok(Some(response)) => told(alloc, &response),
@@ -57,7 +57,7 @@ fn next(alloc: Global, reader: &mut Reader) -> Result<String, Memory> {
     }
 }
 
-/// What a reader answers that is fed some bytes whole, up to the first answer that is no response.
+/// The results of `next` for bytes that are fed whole, up to the first that is no response.
 fn answers(alloc: Global, bytes: &[u8]) -> Result<String, Fail> {
     let mut reader = Reader::new(alloc);
     reader.feed(bytes)?;

@@ -85,7 +85,7 @@ fn finds_uids(rt: HostRuntime) -> Result<(), Fail> {
     Ok(())
 }
 
-/// A million UIDs of which no two touch, in no order.
+/// One of a million UIDs of which no two are adjacent, in scattered order.
 fn scattered(i: u32) -> u32
     requires { i < 1_000_000 }
     ensures { result < 2_000_007 }

@@ -4,9 +4,9 @@ use Rattle.style_wash.proofs.Marks.{no_colon, a_colon}
 use Rattle.style_wash.proofs.declarations.split_declaration.Goals as goal
 
 pub returns-then-colon-text : goal.returns-then-colon-text
-returns-then-colon-text c = no_colon c.args.text.now c.place_of-colon.result c.place_of-colon.ensures.place c.if-colon-text.true
+returns-then-colon-text c = no_colon c.args.text.now c.find_byte-colon.result c.find_byte-colon.ensures.equals c.if-colon-text.true
 
 pub returns : goal.returns
 returns c =
-    let rest = take_rest c.args.text.now (c.place_of-colon.result + 1) in
-    rw rest (a_colon c.args.text.now c.place_of-colon.result c.place_of-colon.ensures.place)
+    let rest = take_rest c.args.text.now (c.find_byte-colon.result + 1) in
+    rw rest (a_colon c.args.text.now c.find_byte-colon.result c.find_byte-colon.ensures.equals)

@@ -3,7 +3,7 @@ use Rattle.std.specs.List.{filter_map, list_all}
 use Rattle.style_wash.specs.Declarations.{IsStyle, calls_only_rgb, declaration_of, pieces, stylewash}
 use Rattle.style_wash.specs.Characters.{is_style_char}
 use Rattle.style_wash.specs.Cuts.{with_declaration}
-use Rattle.style_wash.specs.Values.Place.{Outside}
+use Rattle.style_wash.specs.Values.Nesting.{Outside}
 use Rattle.style_wash.proofs.Pieces.{style_onto, style_onto-piece, washed_begins}
 use Rattle.style_wash.proofs.Styles.{IsAscii-stylewash, washed_calls_only_rgb, washed_characters, washed_is_style, washing_is_idempotent}
 use Rattle.style_wash.proofs.declarations.wash_style.Goals as goal
@@ -23,8 +23,8 @@ text_of-requires c =
     let P : List ℕ → Type 0 = λ bytes. IsAscii bytes in
     subst P (sym all) (IsAscii-stylewash c.args.text.now)
 
-pub returns-clause-washed : goal.returns-clause-washed
-returns-clause-washed c =
+pub returns-clause-equals : goal.returns-clause-equals
+returns-clause-equals c =
     c.text_of.ensures ∙ whole _ _ _ c.args.text.now c.in_default.ensures c.in_ok-push_declaration-2.ensures c.loop-piece.invariant
 
 pub returns-clause-style : goal.returns-clause-style
@@ -32,8 +32,8 @@ returns-clause-style c =
     let all = c.text_of.ensures ∙ whole _ _ _ c.args.text.now c.in_default.ensures c.in_ok-push_declaration-2.ensures c.loop-piece.invariant in
     subst IsStyle (sym all) (washed_is_style c.args.text.now)
 
-pub returns-clause-settled : goal.returns-clause-settled
-returns-clause-settled c =
+pub returns-clause-idempotent : goal.returns-clause-idempotent
+returns-clause-idempotent c =
     let all = c.text_of.ensures ∙ whole _ _ _ c.args.text.now c.in_default.ensures c.in_ok-push_declaration-2.ensures c.loop-piece.invariant in
     ap stylewash all ∙ washing_is_idempotent c.args.text.now ∙ sym all
 
@@ -45,4 +45,4 @@ returns-clause-characters c =
 pub returns-clause-functions : goal.returns-clause-functions
 returns-clause-functions c =
     let all = c.text_of.ensures ∙ whole _ _ _ c.args.text.now c.in_default.ensures c.in_ok-push_declaration-2.ensures c.loop-piece.invariant in
-    ap (calls_only_rgb 0 0 0) all ∙ washed_calls_only_rgb c.args.text.now
+    ap (calls_only_rgb []) all ∙ washed_calls_only_rgb c.args.text.now

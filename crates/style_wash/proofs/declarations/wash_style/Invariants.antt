@@ -1,7 +1,7 @@
 use Rattle.std.proofs.Common.{◌≡◌, length}
 use Rattle.std.specs.List.{filter_map}
 use Rattle.style_wash.specs.Declarations.{declaration_of, pieces, stylewash}
-use Rattle.style_wash.specs.Values.Place.{Outside}
+use Rattle.style_wash.specs.Values.Nesting.{Outside}
 use Rattle.style_wash.proofs.Pieces.{style_onto}
 use Rattle.style_wash.proofs.declarations.wash_style.Given as goal
 

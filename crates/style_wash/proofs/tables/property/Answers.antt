@@ -7,5 +7,5 @@ use Rattle.style_wash.proofs.tables.property.Goals as goal
 pub returns : goal.returns
 unfolding property_of properties
 returns c =
-    subst (λ (name : List ℕ). MatchOption c.named.result (find (str_eq_ignore_ascii_case name) properties ≡ None) (λ (text : Bor (List ℕ)). find (str_eq_ignore_ascii_case name) properties ≡ Some text.now))
-    c.trim.ensures c.named.ensures
+    subst (λ (name : List ℕ). MatchOption c.find_ignore_case.result (find (str_eq_ignore_ascii_case name) properties ≡ None) (λ (text : Bor (List ℕ)). find (str_eq_ignore_ascii_case name) properties ≡ Some text.now))
+    c.trim.ensures c.find_ignore_case.ensures

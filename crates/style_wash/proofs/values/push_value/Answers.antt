@@ -5,7 +5,7 @@ use Rattle.std.proofs.lemmas.Bool.{eqb-true}
 use Rattle.style_wash.specs.Items.{item_of, written_item}
 use Rattle.style_wash.specs.Seen.{item_seen, separator_seen}
 use Rattle.style_wash.specs.Values.{Parts, Gapped, parts, value_in, value_of, written_separator}
-use Rattle.style_wash.specs.Values.Place.{Outside}
+use Rattle.style_wash.specs.Values.Nesting.{Outside}
 use Rattle.style_wash.proofs.Cuts.{parts-nil, no_item, last_item, an_item_too_many, no_separator, next_item, begins_itself, begins_more}
 use Rattle.style_wash.proofs.values.push_value.Goals as goal
 

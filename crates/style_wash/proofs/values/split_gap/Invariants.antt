@@ -1,6 +1,6 @@
 use Rattle.std.proofs.Common.{◌≡◌, ◌≤◌, ◌<◌, ◌-◌, length, take, drop}
 use Rattle.style_wash.specs.Values.{parts}
-use Rattle.style_wash.specs.Values.Place.{Outside}
+use Rattle.style_wash.specs.Values.Nesting.{Outside}
 use Rattle.style_wash.proofs.Cuts.{gap_onto}
 use Rattle.style_wash.proofs.values.split_gap.Given as goal
 

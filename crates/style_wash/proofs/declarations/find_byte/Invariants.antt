@@ -1,5 +1,5 @@
 use Rattle.std.proofs.Common.{◌≡◌, ◌-◌, ◌≤◌, ◌<◌, ◌==◌, ℕ, length, get_or, false}
-use Rattle.style_wash.proofs.declarations.place_of.Given as goal
+use Rattle.style_wash.proofs.declarations.find_byte.Given as goal
 
 abbrev pub invariant-loop-end : goal.invariant-loop-end
 invariant-loop-end l =

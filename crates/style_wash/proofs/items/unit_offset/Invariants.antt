@@ -1,6 +1,6 @@
 use Rattle.std.proofs.Common.{◌≡◌, ◌-◌, ◌≤◌, ◌<◌, ℕ, length, get_or, false}
 use Rattle.style_wash.specs.Items.{begins_unit}
-use Rattle.style_wash.proofs.items.place_of_unit.Given as goal
+use Rattle.style_wash.proofs.items.unit_offset.Given as goal
 
 abbrev pub invariant-loop-end : goal.invariant-loop-end
 invariant-loop-end l =

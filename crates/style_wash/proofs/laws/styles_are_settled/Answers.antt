@@ -1,5 +1,0 @@
-use Rattle.style_wash.proofs.Styles.{styles_are_settled}
-use Rattle.style_wash.proofs.laws.styles_are_settled.Goals as goal
-
-pub returns : goal.returns
-returns c = λ text. styles_are_settled text
