@@ -10,5 +10,6 @@ pub mod BestLemmas
 pub mod ContentLemmas
 pub mod SectionLaws
 pub mod TreeLaws
+pub mod OpensLaws
 pub mod LineLaws
 pub mod ClearLaws

@@ -1,12 +1,12 @@
 -- What holds of every tree.
-use Rattle.std.specs.Prelude.{◌≡◌, ◌≢◌, ℕ, ◌≤◌, true, false, List, [], ◌∷◌, length, unwrap_or, slice_range}
+use Rattle.std.specs.Prelude.{◌≡◌, ◌≢◌, ℕ, ◌+◌, ◌≤◌, true, false, List, [], ◌∷◌, ◌++◌, length, unwrap_or, slice_range}
 use Rattle.std.specs.List.{All, AllPairs, Contains}
 use Rattle.std.specs.Str.Lines.{lines}
 use Rattle.mime_tree.specs.declared.node.Node.{Node}
 use Rattle.mime_tree.specs.Body.{delimits}
 use Rattle.mime_tree.specs.Content.{is_multipart}
 use Rattle.mime_tree.specs.Tree.{PartValue}
-use Rattle.mime_tree.specs.Opening.{inside, opened, message_of}
+use Rattle.mime_tree.specs.Opening.{inside, opened, message_of, parts_of, own, part_of, is_raw, opens_beside}
 
 -- nothing waits unopened after the steps of the definition
 abbrev pub NothingWaits : List ℕ → Type 0
@@ -33,3 +33,14 @@ pub data StandsIn (bytes : List ℕ) (n : Node) : Node → Type 0 where
 -- no line of a part delimits by the boundary of a multipart around it
 abbrev pub OuterLinesEndParts : List ℕ → Type 0
 OuterLinesEndParts bytes = (n c : Node) → HasPlace bytes n → is_multipart n.content.mime ≡ true → StandsIn bytes n c → IsClear bytes (unwrap_or n.content.boundary []) c
+
+-- How the waiting nodes of a tree are opened, without counting steps. The first that waits is opened if it may be and the tree has
+-- at most 1,000 parts then, each node that still waits counted as one part; else it is a leaf.
+pub data OpensTo (bytes : List ℕ) : List PartValue → List Node → List PartValue → Type 0 where
+  all_open : (parts : List PartValue) → OpensTo bytes parts [] parts
+  opens_first : (parts : List PartValue) (n : Node) (rest : List Node) (tree : List PartValue) → opens_beside bytes (length parts + length rest) n ≡ true → OpensTo bytes (parts ++ own bytes n) (inside bytes n ++ rest) tree → OpensTo bytes parts (n ∷ rest) tree
+  leaf_first : (parts : List PartValue) (n : Node) (rest : List Node) (tree : List PartValue) → opens_beside bytes (length parts + length rest) n ≡ false → OpensTo bytes (parts ++ part_of bytes n (is_raw n.content) ∷ []) rest tree → OpensTo bytes parts (n ∷ rest) tree
+
+-- the tree of a message is what its nodes open to
+abbrev pub OpensMessage : List ℕ → Type 0
+OpensMessage bytes = OpensTo bytes [] (message_of bytes ∷ []) (parts_of bytes)

@@ -1,6 +1,6 @@
 //! Laws of the definition, each the contract of a function that does nothing.
 ghost use Rattle.std.specs.Prelude.{List, ℕ};
-ghost use Rattle.mime_tree.specs.Laws.{NothingWaits, OuterLinesEndParts};
+ghost use Rattle.mime_tree.specs.Laws.{NothingWaits, OpensMessage, OuterLinesEndParts};
 
 /// The definition opens in 2,001 steps, each of which opens a multipart or a message or settles a leaf. None waits after them,
 /// so nothing of a message is cut off there.
@@ -12,4 +12,10 @@ pub fn nothing_waits()
 /// boundary always ends the inner parts.
 pub fn outer_lines_end_parts()
     ensures { (bytes : List ℕ) → OuterLinesEndParts bytes }
+{}
+
+/// The tree of a message is the one that its nodes open to: the first in tree order that waits is opened if it may be and the tree
+/// has at most 1,000 parts then; else it is a leaf. No steps are counted there.
+pub fn opens_in_tree_order()
+    ensures { (bytes : List ℕ) → OpensMessage bytes }
 {}
