@@ -4,10 +4,8 @@ mod BestExamples
 mod MalformedExamples
 pub mod BodyLemmas
 pub mod SearchLemmas
-pub mod PieceLemmas
 pub mod OpeningLemmas
 pub mod BestLemmas
-pub mod ContentLemmas
 pub mod SectionLaws
 pub mod TreeLaws
 pub mod OpensLaws

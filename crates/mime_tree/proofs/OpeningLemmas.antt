@@ -10,8 +10,9 @@ use Rattle.mime_tree.specs.declared.node.Node.{Node}
 use Rattle.mime_tree.specs.Tree.{PartValue}
 use Rattle.mime_tree.specs.Body.{places, range}
 use Rattle.header_words.specs.Fields.{Header, header_of}
-use Rattle.mime_tree.specs.declared.content.Content.{Content}
-use Rattle.mime_tree.specs.Content.{content_of, is_multipart, default_in}
+use Rattle.mime_content.specs.declared.content.Content.{Content}
+use Rattle.mime_tree.specs.Content.{is_multipart, default_in}
+use Rattle.mime_content.specs.Content.{content_of}
 use Rattle.mime_tree.specs.Opening.{Opened, node_at, children_from, inside, can_open, own, part_of, section_of, prefix_of, is_body, is_raw, opens_beside, settle, opened, IsSound, parts_of, message_of}
 
 abbrev message_at : ℕ → ℕ → Content → Node

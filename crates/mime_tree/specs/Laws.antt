@@ -1,9 +1,9 @@
--- What holds of every tree.
+-- Laws of every tree.
 use Rattle.std.specs.Prelude.{◌≡◌, ◌≢◌, ℕ, ◌+◌, ◌≤◌, true, false, List, [], ◌∷◌, ◌++◌, length, unwrap_or, slice_range}
 use Rattle.std.specs.List.{All, AllPairs, Contains}
 use Rattle.std.specs.Str.Lines.{lines}
 use Rattle.mime_tree.specs.declared.node.Node.{Node}
-use Rattle.mime_tree.specs.Body.{delimits}
+use Rattle.mime_tree.specs.Body.{is_delimiter_line}
 use Rattle.mime_tree.specs.Content.{is_multipart}
 use Rattle.mime_tree.specs.Tree.{PartValue}
 use Rattle.mime_tree.specs.Opening.{inside, opened, message_of, parts_of, own, part_of, is_raw, opens_beside}
@@ -16,23 +16,23 @@ NothingWaits bytes = (opened bytes 2001 [] (message_of bytes ∷ [])).waiting �
 abbrev pub HasDistinctSections : List PartValue → Type 0
 HasDistinctSections parts = AllPairs (λ (p q : PartValue). p.section ≢ q.section) parts
 
--- no line of a node's body delimits by a boundary
+-- no line of a node's body is a delimiter line of a boundary
 abbrev pub IsClear : List ℕ → List ℕ → Node → Type 0
-IsClear bytes boundary n = All (λ line. delimits boundary line ≡ false) (lines (slice_range bytes n.body n.to))
+IsClear bytes boundary n = All (λ line. is_delimiter_line boundary line ≡ false) (lines (slice_range bytes n.body n.to))
 
 -- a node whose body is a place of the message
 pub record HasPlace (bytes : List ℕ) (n : Node) : Type 0 where
   pub ordered : n.body ≤ n.to
   pub within : n.to ≤ length bytes
 
--- what stands in a node, however deep
-pub data StandsIn (bytes : List ℕ) (n : Node) : Node → Type 0 where
-  direct : (c : Node) → Contains (inside bytes n) c → StandsIn bytes n c
-  deeper : (m c : Node) → StandsIn bytes n m → Contains (inside bytes m) c → StandsIn bytes n c
+-- the nodes in a node, however deep
+pub data IsInside (bytes : List ℕ) (n : Node) : Node → Type 0 where
+  direct : (c : Node) → Contains (inside bytes n) c → IsInside bytes n c
+  deeper : (m c : Node) → IsInside bytes n m → Contains (inside bytes m) c → IsInside bytes n c
 
--- no line of a part delimits by the boundary of a multipart around it
+-- no line of a part is a delimiter line of a multipart around it
 abbrev pub OuterLinesEndParts : List ℕ → Type 0
-OuterLinesEndParts bytes = (n c : Node) → HasPlace bytes n → is_multipart n.content.mime ≡ true → StandsIn bytes n c → IsClear bytes (unwrap_or n.content.boundary []) c
+OuterLinesEndParts bytes = (n c : Node) → HasPlace bytes n → is_multipart n.content.mime ≡ true → IsInside bytes n c → IsClear bytes (unwrap_or n.content.boundary []) c
 
 -- How the waiting nodes of a tree are opened, without counting steps. The first that waits is opened if it may be and the tree has
 -- at most 1,000 parts then, each node that still waits counted as one part; else it is a leaf.
