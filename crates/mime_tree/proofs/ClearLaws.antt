@@ -1,4 +1,4 @@
--- No line of what stands in a multipart delimits by a boundary around it.
+-- No line of a part is a delimiter line of a multipart around it.
 use Rattle.std.proofs.Common.{◌≡◌, ℕ, zero, suc, ◌+◌, ◌-◌, ◌<◌, ◌≤◌, inl, inr, Bool, true, false, ◌||◌, not, cond, List, [], ◌∷◌, ◌++◌, length, get_or, take, drop, refl, sym, ap, ◌∙◌, subst, arith, length-drop}
 use Rattle.std.proofs.lemmas.Bool.{and_parts, or_right, cases_Bool}
 use Rattle.std.proofs.lemmas.List.{drop-drop, drop-take, take-take, length-take-le}
@@ -156,7 +156,7 @@ own_passes bytes n le fits parts =
     subst (λ (ns : List Node). EachNode (clear_of boundary) bytes ns) (sym (inside_multipart bytes n (sym parts)))
     (children_pass (clear_of boundary) bytes n 1 (places boundary text) le fits (places_pass boundary (clear_of boundary) text (all_or_not boundary (lines text))))
 
--- what stands in a node has a place where the node has one
+-- the nodes in a node have places if that node has one
 node_place : (bytes default : List ℕ) (position : Position) (around : ℕ) (enclosed : Bool) (from to : ℕ) → from ≤ to → to ≤ length bytes → HasPlace bytes (node_at bytes default position around enclosed from to)
 unfolding node_at header_of
 node_place bytes default position around enclosed from to le fits =
@@ -194,7 +194,7 @@ inside_place bytes n place =
           (λ i d lt. places_cons bytes (node_at bytes (codes "text/plain") (Body (Some (section_of n.position))) (n.around + 1) true n.body n.to) [] body (All-nil (HasPlace bytes)) i d lt)
     ]
 
--- a node that stands in another, and the boundary of that one
+-- a node in another, and the boundary of that one
 record Inner (bytes boundary : List ℕ) (c : Node) : Type 0 where
   place : HasPlace bytes c
   clear : IsClear bytes boundary c

@@ -1,9 +1,7 @@
 -- Trees of some messages, computed.
 use Rattle.std.proofs.Common.{◌≡◌, ℕ, List, [], ◌∷◌, codes, refl, map}
-use Rattle.std.specs.Prelude.{Some, None}
 use Rattle.header_words.specs.Fields.{header_of}
 use Rattle.mime_tree.specs.Body.{places, range, is_closing_line, is_delimiter_line}
-use Rattle.mime_content.specs.Pieces.{pieces, parameter}
 use Rattle.mime_content.specs.Content.{content_of}
 use Rattle.mime_tree.specs.Opening.{node_at, children_from, inside, opens_beside, settle, opened, message_of, parts_of}
 use Rattle.mime_tree.specs.Tree.{PartValue}

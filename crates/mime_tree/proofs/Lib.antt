@@ -9,5 +9,6 @@ pub mod BestLemmas
 pub mod SectionLaws
 pub mod TreeLaws
 pub mod OpensLaws
+pub mod ShownLaws
 pub mod LineLaws
 pub mod ClearLaws

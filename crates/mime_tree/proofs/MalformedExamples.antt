@@ -7,7 +7,6 @@ use Rattle.header_words.specs.Fields.{header_of}
 use Rattle.mime_tree.specs.declared.choice.Shown.{Shown}
 use Rattle.mime_tree.specs.declared.choice.Shown.TheVariants.{Plain, Flowed, Html, Unread, Nothing}
 use Rattle.mime_tree.specs.Body.{places, is_closing_line, is_delimiter_line}
-use Rattle.mime_content.specs.Pieces.{pieces, parameter}
 use Rattle.mime_content.specs.Content.{content_of}
 use Rattle.mime_tree.specs.Tree.{PartValue}
 use Rattle.mime_tree.specs.Opening.{node_at, children_from, inside, opens_beside, settle, opened, message_of, parts_of, tree_of}

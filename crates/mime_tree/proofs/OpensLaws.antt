@@ -1,10 +1,10 @@
 -- The tree as its nodes open, without counting steps.
-use Rattle.std.proofs.Common.{◌≡◌, ℕ, zero, suc, ◌+◌, inl, inr, true, false, List, [], ◌∷◌, ◌++◌, length, refl, sym, ap, ◌∙◌, subst}
+use Rattle.std.proofs.Common.{◌≡◌, ℕ, zero, suc, ◌+◌, inl, inr, List, [], ◌∷◌, ◌++◌, length, sym, subst}
 use Rattle.std.proofs.lemmas.Bool.{cases_Bool}
 use Rattle.mime_tree.specs.declared.node.Node.{Node}
 use Rattle.mime_tree.specs.Tree.{PartValue}
-use Rattle.mime_tree.specs.Opening.{Opened, opened, settle, own, inside, part_of, is_raw, opens_beside, message_of, parts_of}
-use Rattle.mime_tree.specs.Laws.{OpensTo, OpensMessage, NothingWaits}
+use Rattle.mime_tree.specs.Opening.{Opened, opened, own, inside, part_of, is_raw, opens_beside, message_of, parts_of}
+use Rattle.mime_tree.specs.Laws.{OpensTo, OpensMessage}
 use Rattle.mime_tree.specs.Laws.OpensTo.{all_open, opens_first, leaf_first}
 use Rattle.mime_tree.proofs.OpeningLemmas.{settle_open, settle_leaf}
 use Rattle.mime_tree.proofs.TreeLaws.{nothing_waits}

@@ -1,8 +1,8 @@
 -- Lines without `--` and the boundary in them are no delimiters.
-use Rattle.std.proofs.Common.{◌≡◌, ℕ, zero, suc, ◌+◌, ◌-◌, ◌<◌, ◌≤◌, inl, inr, Bool, true, false, ◌&&◌, ◌||◌, cond, eqb, List, [], ◌∷◌, ◌++◌, length, get_or, take, drop, refl, sym, ap, ◌∙◌, subst, arith, length-drop, length-append, append_assoc}
+use Rattle.std.proofs.Common.{◌≡◌, ℕ, zero, suc, ◌+◌, ◌-◌, ◌<◌, ◌≤◌, inl, inr, Bool, true, false, ◌&&◌, cond, eqb, List, [], ◌∷◌, ◌++◌, length, get_or, take, drop, refl, sym, ap, ◌∙◌, subst, arith, length-drop, length-append, append_assoc}
 use Rattle.std.specs.Prelude.{filter, codes, not}
-use Rattle.std.specs.List.{position_or_len, prefix_len, starts_with, list_all}
-use Rattle.std.proofs.lemmas.Bool.{cases_lt, cases_Bool, eqb-true, ne_eqb}
+use Rattle.std.specs.List.{position_or_len, starts_with}
+use Rattle.std.proofs.lemmas.Bool.{cases_lt, cases_Bool, eqb-true}
 use Rattle.std.proofs.lemmas.Bool.Decides.{Decides-eqb}
 use Rattle.std.proofs.lemmas.Slice.Eq.{starts_is}
 use Rattle.std.proofs.lemmas.List.{drop-drop, take_rest, length-take-le, get_or-drop, get_or-take, get_or_append_left}
@@ -12,7 +12,7 @@ use Rattle.memchr.specs.Find.{OccursAt, Nowhere}
 use Rattle.header_words.specs.Lines.{is_newline, first_text, first_size}
 use Rattle.header_words.proofs.FirstLine.{first_text_found, first_size_found}
 use Rattle.header_words.proofs.WholeLines.{IsFront, front_first}
-use Rattle.mime_tree.specs.Body.{is_delimiter, is_delimiter_line, is_opening_line, is_closing_line, has_boundary, delimiters, lines_from}
+use Rattle.mime_tree.specs.Body.{is_delimiter, is_delimiter_line, is_closing_line, has_boundary, delimiters}
 use Rattle.mime_tree.proofs.BodyLemmas.{lines_step}
 
 abbrev pub needle_of : List ℕ → List ℕ

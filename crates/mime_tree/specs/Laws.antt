@@ -1,11 +1,12 @@
 -- Laws of every tree.
-use Rattle.std.specs.Prelude.{◌≡◌, ◌≢◌, ℕ, ◌+◌, ◌≤◌, true, false, List, [], ◌∷◌, ◌++◌, length, unwrap_or, slice_range}
+use Rattle.std.specs.Prelude.{◌≡◌, ◌≢◌, ℕ, ◌+◌, ◌<◌, ◌≤◌, true, false, List, [], ◌∷◌, ◌++◌, length, take, Some, IfSome, unwrap_or, slice_range}
 use Rattle.std.specs.List.{All, AllPairs, Contains}
 use Rattle.std.specs.Str.Lines.{lines}
 use Rattle.mime_tree.specs.declared.node.Node.{Node}
 use Rattle.mime_tree.specs.Body.{is_delimiter_line}
 use Rattle.mime_tree.specs.Content.{is_multipart}
-use Rattle.mime_tree.specs.Tree.{PartValue}
+use Rattle.mime_tree.specs.Tree.{PartValue, TreeValue}
+use Rattle.mime_tree.specs.Best.{counts, taken_in, given}
 use Rattle.mime_tree.specs.Opening.{inside, opened, message_of, parts_of, own, part_of, is_raw, opens_beside}
 
 -- nothing waits unopened after the steps of the definition
@@ -44,3 +45,18 @@ pub data OpensTo (bytes : List ℕ) : List PartValue → List Node → List Part
 -- the tree of a message is what its nodes open to
 abbrev pub OpensMessage : List ℕ → Type 0
 OpensMessage bytes = OpensTo bytes [] (message_of bytes ∷ []) (parts_of bytes)
+
+-- a multipart chooses the child that a part is in: the one of the leaf that `taken_in` finds
+pub record ChoosesChild (t : TreeValue) (around : List ℕ) (p : PartValue) : Type 0 where
+  pub leaf : PartValue
+  pub chosen : taken_in t around ≡ Some leaf
+  pub same_child : take (length around + 1) leaf.section ≡ take (length around + 1) p.section
+
+-- the leaf to show is a text or a page that counts, and each multipart around it, from the message on, chooses the child that the
+-- leaf is in: in an alternative the child of the last leaf that counts, in any other multipart that of the first
+pub record IsLeafToShow (t : TreeValue) (p : PartValue) : Type 0 where
+  pub may_be_shown : counts p ≡ true
+  pub chosen : (k : ℕ) → k < length p.section → ChoosesChild t (take k p.section) p
+
+abbrev pub GivesLeafToShow : TreeValue → Type 0
+GivesLeafToShow t = IfSome (given 40 t []) (IsLeafToShow t)

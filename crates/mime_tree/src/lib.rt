@@ -14,7 +14,9 @@ mod parts;
 mod reading;
 
 pub use choice::{Shown, best, part, shown_as};
-pub use laws::{nothing_waits, opens_in_tree_order, outer_lines_end_parts};
+pub use laws::{
+    multiparts_choose_a_child, nothing_waits, opens_in_tree_order, outer_lines_end_parts,
+};
 pub use mail_values::Section;
 pub use parts::{Part, Tree};
 pub use reading::tree;
