@@ -1,7 +1,7 @@
 use Rattle.std.proofs.Common.{◌≡◌, ℕ, List, sym, ◌∙◌, subst}
 use Rattle.std.specs.Str.{IsUtf8, str_to_ascii_lowercase}
-use Rattle.mime_tree.proofs.ContentLemmas.{lowered_type}
-use Rattle.mime_tree.proofs.content.lowered.Goals as goal
+use Rattle.mime_content.proofs.ContentLemmas.{lowered_type}
+use Rattle.mime_content.proofs.content.lowered.Goals as goal
 
 pub returns : goal.returns
 returns c =

@@ -1,7 +1,7 @@
 use Rattle.std.proofs.Common.{◌+◌, arith, ap, sym, ◌∙◌}
 use Rattle.std.specs.Option.{option_or}
-use Rattle.mime_tree.proofs.PieceLemmas.{parameter_starts, parameter_read, first_value, pieces_after}
-use Rattle.mime_tree.proofs.pieces.parameter.Goals as goal
+use Rattle.mime_content.proofs.PieceLemmas.{parameter_starts, parameter_read, first_value, pieces_after}
+use Rattle.mime_content.proofs.pieces.parameter.Goals as goal
 
 pub loop-at-init : goal.loop-at-init
 loop-at-init c = record { within = omega arith; left = parameter_starts c.args.name.now c.args.value.now c.piece_size-at.result c.piece_size-at.ensures.size }

@@ -9,7 +9,7 @@ use Rattle.std.specs.Prelude.{All}
 use Rattle.std.specs.List.{position_or_len}
 use Rattle.std.specs.Char.{to_ascii_lowercase}
 use Rattle.std.specs.Str.{str_to_ascii_lowercase, IsUtf8}
-use Rattle.mime_tree.specs.Content.{is_type, is_token, is_token_byte, is_slash}
+use Rattle.mime_content.specs.Content.{is_type, is_token, is_token_byte, is_slash}
 
 abbrev Ascii : ℕ → Type 0
 Ascii b = b < 128

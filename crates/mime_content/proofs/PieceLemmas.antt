@@ -6,9 +6,9 @@ use Rattle.std.proofs.lemmas.List.{drop-drop, drop_all, take_rest}
 use Rattle.std.specs.Prelude.{Option, Some, None}
 use Rattle.std.specs.List.{onto_first, filter_map, slice_get, cons_option}
 use Rattle.std.specs.Option.{option_map, option_or}
-use Rattle.mime_tree.specs.declared.pieces.Quoting.{Quoting}
-use Rattle.mime_tree.specs.declared.pieces.Quoting.TheVariants.{Outside, Inside, Escaped}
-use Rattle.mime_tree.specs.Pieces.{with_byte, pieces_from, pieces, cuts, quoting_after, size_from, is_outside, is_kept, with_kept, kept, unquoted, value_in, parameter, first_piece, first_of_pieces}
+use Rattle.mime_content.specs.declared.pieces.Quoting.{Quoting}
+use Rattle.mime_content.specs.declared.pieces.Quoting.TheVariants.{Outside, Inside, Escaped}
+use Rattle.mime_content.specs.Pieces.{with_byte, pieces_from, pieces, cuts, quoting_after, size_from, is_outside, is_kept, with_kept, kept, unquoted, value_in, parameter, first_piece, first_of_pieces}
 use Rattle.header_words.specs.Value.{trimmed}
 
 drop_one : (xs : List ℕ) (i : ℕ) → i < length xs → drop i xs ≡ get_or xs i 0 ∷ drop (i + 1) xs

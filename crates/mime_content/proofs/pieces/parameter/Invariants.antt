@@ -1,7 +1,7 @@
 use Rattle.std.proofs.Common.{◌≡◌, ◌≤◌, ◌-◌, length}
-use Rattle.mime_tree.specs.Pieces.{parameter}
-use Rattle.mime_tree.proofs.PieceLemmas.{first_value, pieces_after}
-use Rattle.mime_tree.proofs.pieces.parameter.Given as goal
+use Rattle.mime_content.specs.Pieces.{parameter}
+use Rattle.mime_content.proofs.PieceLemmas.{first_value, pieces_after}
+use Rattle.mime_content.proofs.pieces.parameter.Given as goal
 
 abbrev pub invariant-loop-at : goal.invariant-loop-at
 invariant-loop-at l = record {

@@ -1,14 +1,14 @@
 //! The pieces of a structured field, and the parameters among them (RFC 2045 §5.1, RFC 2183 §2).
 ghost use Rattle.std.specs.Prelude.{◌≡◌, ◌≤◌, length, IfOk, OnOk};
 ghost use Rattle.std.specs.Str.{str_eq_ignore_ascii_case};
-ghost use Rattle.mime_tree.specs.Pieces.{quoting_after, cuts, size_from, first_piece, is_kept, with_kept, is_outside, unquoted, text_of_value, value_in, parameter};
-ghost use Rattle.mime_tree.specs.declared.pieces.Quoting.TheVariants.{Inside, Outside};
+ghost use Rattle.mime_content.specs.Pieces.{quoting_after, cuts, size_from, first_piece, is_kept, with_kept, is_outside, unquoted, text_of_value, value_in, parameter};
+ghost use Rattle.mime_content.specs.declared.pieces.Quoting.TheVariants.{Inside, Outside};
 
 use header_words::{find_byte, trim};
 use mail_values::Bytes;
 use std::alloc::{AllocError, Global};
 
-/// How a place of a field stands to its quoted strings.
+/// Whether a place of a field is in a quoted string.
 #[derive(Clone, Copy)]
 pub enum Quoting {
     Outside,
@@ -47,7 +47,7 @@ fn is_cut(quoting: Quoting, byte: u8) -> bool
     }
 }
 
-/// How long the first piece is.
+/// Returns the length of the first piece.
 fn piece_size(value: &[u8]) -> usize
     ensures size { result ≡ size_from Outside value.now }
     ensures within { result ≤ length value.now }
@@ -62,14 +62,14 @@ fn piece_size(value: &[u8]) -> usize
     value.len()
 }
 
-/// The first piece, which says the type or the disposition.
+/// Returns the first piece, which is the type or the disposition.
 pub fn first_piece(value: &[u8]) -> &[u8]
     ensures { result.now ≡ first_piece value.now }
 {
     trim(&value[..piece_size(value)])
 }
 
-/// The value of a parameter, whatever the case of its name's letters.
+/// Returns the value of the first parameter of a name, in either case.
 pub fn parameter(alloc: Global, name: &[u8], value: &[u8]) -> Result<Option<Bytes>, AllocError>
     ensures { IfOk result (λ found. found ≡ parameter name.now value.now) }
 {
@@ -85,7 +85,7 @@ pub fn parameter(alloc: Global, name: &[u8], value: &[u8]) -> Result<Option<Byte
     Ok(None)
 }
 
-/// The value that a piece gives a name.
+/// Returns the value of a piece that is a parameter of this name.
 fn value_in(alloc: Global, name: &[u8], piece: &[u8]) -> Result<Option<Bytes>, AllocError>
     ensures { IfOk result (λ found. found ≡ value_in name.now piece.now) }
 {
@@ -111,7 +111,7 @@ fn text_of_value(alloc: Global, value: &[u8]) -> Result<Option<Bytes>, AllocErro
     }
 }
 
-/// The text of a quoted string, after its first quote.
+/// Returns the text of a quoted string, from just after its first quote.
 fn unquote(alloc: Global, quoted: &[u8]) -> Result<Option<Bytes>, AllocError>
     ensures { IfOk result (λ found. found ≡ unquoted Inside quoted.now) }
 {
@@ -150,7 +150,7 @@ fn keeps(quoting: Quoting, byte: u8) -> bool
     }
 }
 
-/// Adds a byte of a quoted string where it stands in the text.
+/// Adds a byte of a quoted string, if it belongs to the text.
 fn push_kept(text: &mut Bytes, quoting: Quoting, byte: u8) -> Result<(), AllocError>
     ensures { OnOk result (text.new ≡ with_kept quoting byte text.old) }
 {

@@ -1,12 +1,12 @@
-//! What the header of a part says of it (RFC 2045, RFC 2183).
+//! The Content-* fields of a header, read (RFC 2045, RFC 2183).
 ghost use Rattle.std.specs.Prelude.{◌≡◌, ◌⊎◌, true, length, IfOk, codes, []};
 ghost use Rattle.std.specs.List.{list_all};
 ghost use Rattle.std.specs.Option.{option_or};
 ghost use Rattle.std.specs.Str.{str_to_ascii_lowercase};
 ghost use Rattle.std.specs.Str.Lossy.{utf8_lossy};
 ghost use Rattle.header_words.specs.Value.{trimmed, decoded_text};
-ghost use Rattle.mime_tree.specs.Pieces.{parameter, first_piece};
-ghost use Rattle.mime_tree.specs.Content.{content_of, field_value, is_token, is_token_byte, is_type, readable, mime_of, filled, text_of, name_of, coding_named, is_attachment, id_in, location_in, is_word, format_of, is_multipart, is_message, is_alternative};
+ghost use Rattle.mime_content.specs.Pieces.{parameter, first_piece};
+ghost use Rattle.mime_content.specs.Content.{content_of, field_value, is_token, is_token_byte, is_type, readable, mime_of, filled, text_of, name_of, coding_named, is_attachment, id_in, location_in, is_word, format_of};
 
 use crate::pieces::{first_piece, parameter};
 use header_words::{Fields, decoded_words, find_byte, trim, unfolded};
@@ -14,23 +14,23 @@ use mail_values::{Bytes, Text};
 use std::alloc::{AllocError, Global};
 use transfer_codings::Coding;
 
-/// What the header of a part says of it.
+/// The Content-* fields of a header.
 #[derive(Drop)]
 pub struct Content {
     pub mime: Text,
     pub boundary: Option<Bytes>,
     pub charset: Text,
-    /// None where the coding is unknown.
+    /// `None` if the coding is unknown.
     pub coding: Option<Coding>,
     pub attached: bool,
     pub name: Text,
     pub id: Option<Bytes>,
     pub location: Option<Text>,
-    /// Some where the format is flowed: whether DelSp is yes.
+    /// `Some` if the format is flowed: whether DelSp is yes.
     pub format: Option<bool>,
 }
 
-/// What a header says, where the type of a part with none is `default`.
+/// Reads the Content-* fields of a header. `default` is the type of a part that has none.
 #[tactic(auto, unfolding(crate::specs::Content::content_of))]
 pub fn read_content(
     alloc: Global,
@@ -57,7 +57,7 @@ pub fn read_content(
     })
 }
 
-/// The value of the first field of a name without its folds, or nothing.
+/// Returns the value of the first field of a name, unfolded; nothing if there is none.
 fn field_value(alloc: Global, fields: &Fields<'_>, name: &str) -> Result<Bytes, AllocError>
     ensures { IfOk result (λ value. value ≡ field_value name.now fields.now.fields) }
 {
@@ -67,10 +67,10 @@ fn field_value(alloc: Global, fields: &Fields<'_>, name: &str) -> Result<Bytes, 
     }
 }
 
-/// The Content-Type, or nothing where its type doesn't read.
+/// Returns the Content-Type, or nothing if it has no type that reads.
 fn readable_type(alloc: Global, fields: &Fields<'_>) -> Result<Bytes, AllocError>
-    ensures reads { IfOk result (λ kind. length kind ≡ 0 ⊎ is_type (first_piece kind) ≡ true) }
-    ensures is { IfOk result (λ kind. kind ≡ readable (field_value (codes "Content-Type") fields.now.fields)) }
+    ensures has_type { IfOk result (λ kind. length kind ≡ 0 ⊎ is_type (first_piece kind) ≡ true) }
+    ensures equals { IfOk result (λ kind. kind ≡ readable (field_value (codes "Content-Type") fields.now.fields)) }
 {
     let kind = field_value(alloc, fields, "Content-Type")?;
     if is_type(first_piece(kind.as_slice())) {
@@ -79,7 +79,7 @@ fn readable_type(alloc: Global, fields: &Fields<'_>) -> Result<Bytes, AllocError
     Ok(Bytes::from_vec(Vec::new(alloc)))
 }
 
-/// Whether a text is two tokens with `/` between.
+/// Returns whether a text is two tokens with `/` between.
 fn is_type(text: &[u8]) -> bool
     ensures { result ≡ is_type text.now }
 {
@@ -105,7 +105,7 @@ fn is_token_byte(byte: u8) -> bool
     byte > 32 && byte < 127 && !b"()<>@,;:\\\"/[]?=".contains(&byte)
 }
 
-/// The type in lower case, or another where there is none.
+/// Returns the type in lower case, or the default if there is none.
 fn mime(alloc: Global, default: &str, kind: &[u8]) -> Result<Text, AllocError>
     requires { length kind.now ≡ 0 ⊎ is_type (first_piece kind.now) ≡ true }
     ensures { IfOk result (λ mime. mime ≡ mime_of default.now kind.now) }
@@ -116,7 +116,7 @@ fn mime(alloc: Global, default: &str, kind: &[u8]) -> Result<Text, AllocError>
     lowered(alloc, first_piece(kind))
 }
 
-/// A type in lower case.
+/// Returns a type in lower case.
 fn lowered(alloc: Global, mime: &[u8]) -> Result<Text, AllocError>
     requires { is_type mime.now ≡ true }
     ensures { IfOk result (λ text. text ≡ str_to_ascii_lowercase mime.now) }
@@ -125,7 +125,7 @@ fn lowered(alloc: Global, mime: &[u8]) -> Result<Text, AllocError>
     Ok(Text::from_string(String::from_utf8_lossy(alloc, &lowered)?))
 }
 
-/// Bytes as a text.
+/// Reads bytes as a text.
 fn lossy(alloc: Global, bytes: &[u8]) -> Result<Text, AllocError>
     ensures { IfOk result (λ text. text ≡ utf8_lossy bytes.now) }
 {
@@ -153,7 +153,7 @@ fn charset(alloc: Global, kind: &[u8]) -> Result<Text, AllocError>
 fn coding_of(name: &[u8]) -> Option<Coding>
     ensures { result ≡ coding_named name.now }
 {
-    if name.is_empty()
+    if name.eq_ignore_ascii_case(b"")
         || name.eq_ignore_ascii_case(b"7bit")
         || name.eq_ignore_ascii_case(b"8bit")
         || name.eq_ignore_ascii_case(b"binary")
@@ -175,7 +175,7 @@ fn is_attached(disposition: &[u8]) -> bool
     first_piece(disposition).eq_ignore_ascii_case(b"attachment")
 }
 
-/// The name of a file that a part is to be saved as.
+/// Returns the name of the file that a part is to be saved as.
 fn name(alloc: Global, disposition: &[u8], kind: &[u8]) -> Result<Text, AllocError>
     ensures { IfOk result (λ text. text ≡ name_of (option_or (parameter (codes "filename") disposition.now) (parameter (codes "name") kind.now))) }
 {
@@ -188,14 +188,14 @@ fn name(alloc: Global, disposition: &[u8], kind: &[u8]) -> Result<Text, AllocErr
     }
 }
 
-/// The text of a parameter that names a file: many mailers write encoded words there.
+/// Decodes the name of a file: many mailers write encoded words there.
 fn named(alloc: Global, value: &[u8]) -> Result<Text, AllocError>
     ensures { IfOk result (λ text. text ≡ decoded_text value.now) }
 {
     Ok(Text::from_string(decoded_words(alloc, value)?))
 }
 
-/// What a Content-ID has between `<` and `>`.
+/// Returns the bytes between the `<` and `>` of a Content-ID.
 fn id_of(alloc: Global, value: &[u8]) -> Result<Option<Bytes>, AllocError>
     ensures { IfOk result (λ found. found ≡ id_in value.now) }
 {
@@ -224,7 +224,7 @@ fn is_word(word: &[u8], found: &Option<Bytes>) -> bool
     }
 }
 
-/// Whether DelSp is yes, where the format is flowed (RFC 3676 §4).
+/// Returns whether DelSp is yes, if the format is flowed (RFC 3676 §4).
 fn format(alloc: Global, kind: &[u8]) -> Result<Option<bool>, AllocError>
     ensures { IfOk result (λ found. found ≡ format_of kind.now) }
 {
@@ -233,38 +233,4 @@ fn format(alloc: Global, kind: &[u8]) -> Result<Option<bool>, AllocError>
     }
     let del_sp = parameter(alloc, b"delsp", kind)?;
     Ok(Some(is_word(b"yes", &del_sp)))
-}
-
-/// Whether a type is that of a multipart.
-pub fn has_parts(mime: &str) -> bool
-    ensures { result ≡ is_multipart mime.now }
-{
-    mime.as_bytes().starts_with(b"multipart/")
-}
-
-/// Whether a type is that of a message.
-pub fn has_message(mime: &str) -> bool
-    ensures { result ≡ is_message mime.now }
-{
-    mime == "message/rfc822"
-}
-
-impl Content {
-    pub fn is_multipart(&self) -> bool
-        ensures { result ≡ is_multipart self.now.mime }
-    {
-        has_parts(self.mime.as_str())
-    }
-
-    pub fn is_message(&self) -> bool
-        ensures { result ≡ is_message self.now.mime }
-    {
-        has_message(self.mime.as_str())
-    }
-
-    pub fn is_alternative(&self) -> bool
-        ensures { result ≡ is_alternative self.now.mime }
-    {
-        self.mime.as_str() == "multipart/alternative"
-    }
 }
