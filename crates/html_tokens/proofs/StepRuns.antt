@@ -11,7 +11,7 @@ use Rattle.html_syntax.specs.States.State.{Data, TagName, BeforeName, Plaintext}
 use Rattle.html_syntax.specs.Tokenizer.{read, step, look_again, look, tokens_at_end, chars}
 use Rattle.html_references.specs.Input.{input, read_as, decode_references}
 use Rattle.html_tokens.specs.Tags.{named_by, with_attributes, ended}
-use Rattle.html_tokens.specs.Scanned.{state_in, part_tokens, between, GivesToken, Holds, opens_markup, opens_start, opens_end, part_bound, part_moved}
+use Rattle.html_tokens.specs.Scanned.{state_in, part_tokens, between, GivesToken, Holds, IsSpan, opens_markup, opens_start, opens_end, part_bound, part_moved}
 use Rattle.html_tokens.specs.Stepping.{RunEnds, NoMarkup, Passes, RunBegins, RunLeaves, RunsStandApart, tokens_in, StepsTo, MovesTo, Moves, run_step}
 use Rattle.html_tokens.specs.declared.mode.Content.{Content}
 use Rattle.html_tokens.specs.declared.mode.Mode.{Mode}
@@ -24,6 +24,7 @@ use Rattle.html_references.specs.declared.stretch.ReadAs.TheVariants as reads
 use Rattle.html_tokens.specs.declared.step.Step.{Step}
 use Rattle.html_tokens.proofs.Runs.{emits, emits-more, run}
 use Rattle.html_references.proofs.Stretches.{input-nil}
+use Rattle.html_tokens.proofs.SpanTokens.{span_some}
 use Rattle.std.specs.List.{list_all}
 
 -- ---- tags
@@ -213,20 +214,27 @@ passes_here text place start mode.Data e = ap (λ (n : ℕ). tokens_in mode.Data
 passes_here text place start (mode.Inside c) e = tt
 passes_here text place start mode.Plaintext e = tt
 
-pub moved_to : (text : List ℕ) (at : ℕ) (m : Mode) (s : Step) (moved : Span) → IsCharBoundary text at → StepsTo (drop at text) m s
+abbrev moved_span : ℕ → Span → Span
+moved_span by s = record { start = by + s.start; end = by + s.end; part = part_moved by s.part }
+
+span_moved : (text : List ℕ) (at : ℕ) (s : Span) → IsCharBoundary text at → IsSpan (drop at text) s → IsSpan text (moved_span at s)
+span_moved text at s cut h = record {
+  some = omega (arith, h.some);
+  begins = IsCharBoundary-from_rest text at s.start cut.0 h.begins;
+  ends = IsCharBoundary-from_rest text at s.end cut.0 h.ends;
+  holds = holds_moved text at s.start s.part cut.0 h.holds;
+}
+
+pub moved_to : (text : List ℕ) (at : ℕ) (m : Mode) (s : Step) (moved : Span) → IsUtf8 text → IsCharBoundary text at → StepsTo (drop at text) m s
     → moved ≡ record { start = at + s.span.start; end = at + s.span.end; part = part_moved at s.span.part }
     → MovesTo text at m (record { span = moved; at = at + s.at; mode = s.mode })
-moved_to text at m s moved cut h e = subst (λ (x : Span). MovesTo text at m (record { span = x; at = at + s.at; mode = s.mode })) (sym e) (record {
+moved_to text at m s moved utf8 cut h e = subst (λ (x : Span). MovesTo text at m (record { span = x; at = at + s.at; mode = s.mode })) (sym e) (record {
   reads =
       h.reads
       ∙ ap (λ (l : List Token). l ++ tokens_in s.mode (drop s.at (drop at text))) (tokens_moved text at s.span.start s.span.end s.span.part)
       ∙ ap (λ (l : List ℕ). part_tokens text (at + s.span.start) (at + s.span.end) (part_moved at s.span.part) ++ tokens_in s.mode l) (drop-drop s.at at text);
-  span = record {
-    some = omega (arith, h.span.some);
-    begins = IsCharBoundary-from_rest text at s.span.start cut.0 h.span.begins;
-    ends = IsCharBoundary-from_rest text at s.span.end cut.0 h.span.ends;
-    holds = holds_moved text at s.span.start s.span.part cut.0 h.span.holds;
-  };
+  nonempty = span_some text (moved_span at s.span) utf8 (span_moved text at s.span cut h.span);
+  span = span_moved text at s.span cut h.span;
   at = IsCharBoundary-from_rest text at s.at cut.0 h.at;
   before = omega arith;
   passes = passes_here text at (at + s.span.start) m (omega (arith, h.start));
@@ -264,6 +272,7 @@ pub moves_from : (text : List ℕ) (early late : ℕ) (m n : Mode) (s : Option S
 moves_from text early late m n None le same begins passes h = same ∙ h
 moves_from text early late m n (Some s) le same begins passes h = record {
   reads = same ∙ h.reads;
+  nonempty = h.nonempty;
   span = h.span;
   at = h.at;
   before = omega (arith, le, h.before);

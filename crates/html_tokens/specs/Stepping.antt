@@ -1,5 +1,5 @@
 -- The step to the next token.
-use Rattle.std.specs.Prelude.{◌≡◌, ℕ, true, false, ◌<◌, ◌≤◌, List, [], ◌++◌, Option, Some, None, length, drop, IsCharBoundary}
+use Rattle.std.specs.Prelude.{◌≡◌, ◌≢◌, ℕ, true, false, ◌<◌, ◌≤◌, List, [], ◌++◌, Option, Some, None, length, drop, IsCharBoundary}
 use Rattle.html_syntax.specs.Token.{Token}
 use Rattle.html_syntax.specs.Tokenizer.{read}
 use Rattle.html_references.specs.Input.{input}
@@ -76,6 +76,7 @@ run_step read_as end = record { span = record { start = 0; end = end; part = par
 -- The step goes to the first token from this place on, and right behind it.
 pub record MovesTo (text : List ℕ) (place : ℕ) (mode : Mode) (step : Step) : Type 0 where
   pub reads : tokens_in mode (drop place text) ≡ span_tokens text step.span ++ tokens_in step.mode (drop step.at text)
+  pub nonempty : span_tokens text step.span ≢ []
   pub span : IsSpan text step.span
   pub at : IsCharBoundary text step.at
   pub before : place ≤ step.span.start

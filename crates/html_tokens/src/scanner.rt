@@ -1,5 +1,5 @@
 //! A scanner that gives the places of tokens first, and a token only where it is asked for.
-ghost use Rattle.std.specs.Prelude.{◌≡◌, ◌≤◌, ◌++◌, [], true, zero, take, IfOk, IfSome, None, MatchOption, chars};
+ghost use Rattle.std.specs.Prelude.{◌≡◌, ◌≢◌, ◌≤◌, ◌++◌, [], true, zero, take, IfOk, IfSome, None, MatchOption, chars};
 ghost use Rattle.html_syntax.specs.States.State.{Data as InData};
 ghost use Rattle.html_syntax.specs.Tokenizer.{read};
 ghost use Rattle.html_syntax.specs.Held.{meaning};
@@ -60,6 +60,7 @@ impl<'t> Scanner<'t> {
     pub fn next(&mut self) -> Option<Span>
         ensures text { self.new.text ≡ self.old.text }
         ensures reads { MatchOption result (left self.old ≡ []) (λ span. left self.old ≡ span_tokens self.old.text span ++ left self.new) }
+        ensures nonempty { IfSome result (λ span. span_tokens self.old.text span ≢ []) }
         ensures span { IfSome result (λ span. IsSpan self.old.text span) }
         ensures before { IfSome result (λ span. self.old.at ≤ span.start) }
         ensures passes { IfSome result (λ span. Passes self.old.text self.old.at self.old.mode span.start) }

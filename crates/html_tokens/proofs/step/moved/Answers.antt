@@ -9,4 +9,4 @@ returns-in-Some c =
     let rest = drop c.args.at c.args.text.now in
     let e = c.moved.ensures in
     let steps : StepsTo rest c.args.mode c.in-Some.step = subst (λ (o : Option Step). Steps rest c.args.mode o) c.in-Some.is c.requires.steps in
-    moved_to c.args.text.now c.args.at c.args.mode c.in-Some.step c.moved.result c.requires.boundary steps (same_span c.moved.result _ _ _ e.start e.end e.part)
+    moved_to c.args.text.now c.args.at c.args.mode c.in-Some.step c.moved.result c.utf8.text c.requires.boundary steps (same_span c.moved.result _ _ _ e.start e.end e.part)
