@@ -12,7 +12,7 @@ use Rattle.html_syntax.specs.States.State.{Data, TagOpen, EndTagOpen, TagName, B
 use Rattle.html_syntax.specs.States.Action.{ReconsumeIn, SwitchPast}
 use Rattle.html_syntax.specs.Tokenizer.{look, look_again, step, read, tokens_at_end}
 use Rattle.html_references.specs.Input.{input}
-use Rattle.html_references.specs.Prefixes.{begins_lowered}
+use Rattle.html_references.specs.Prefixes.{begins_ignore_case}
 use Rattle.html_tokens.specs.Openings.{opening_len, state_after, after_bang, after_solidus, opening_of, OpensTag, begins_empty}
 use Rattle.html_tokens.specs.Scanned.{opens_markup, opens_start, opens_end}
 use Rattle.html_tokens.specs.declared.markup.Opening.{Opening}
@@ -129,7 +129,7 @@ small_letter c h = grind (arith, nat_tests)
 no_return_letter : (c : ℕ) → is_letter c ≡ true → c ≢ 13
 no_return_letter c h e = absurd (grind (arith, nat_tests))
 
-lowered_stream : (w bytes : List ℕ) → list_all is_letter w ≡ true → IsUtf8 bytes → begins_lowered w (input bytes) ≡ begins_lowered w bytes
+lowered_stream : (w bytes : List ℕ) → list_all is_letter w ≡ true → IsUtf8 bytes → begins_ignore_case w (input bytes) ≡ begins_ignore_case w bytes
 lowered_stream [] bytes h utf8 = refl
 lowered_stream (x ∷ w) [] h utf8 = rw input-nil refl
 lowered_stream (x ∷ w) (b ∷ bytes) h utf8 =
@@ -143,27 +143,27 @@ lowered_stream (x ∷ w) (b ∷ bytes) h utf8 =
           rw (f.is, not_lowered x b parts.0 other, not_lowered x f.char parts.0 (not-true (is_letter f.char) f.passes)) refl
     ]
 
-begins_taken : (w cs : List ℕ) → begins_with w (map lower (take (length w) cs)) ≡ begins_lowered w cs
+begins_taken : (w cs : List ℕ) → begins_with w (map lower (take (length w) cs)) ≡ begins_ignore_case w cs
 begins_taken [] cs = refl
 begins_taken (x ∷ w) [] = refl
 begins_taken (x ∷ w) (c ∷ cs) = ap (λ (t : Bool). x == lower c && t) (begins_taken w cs)
 
-lowered_len : (w cs : List ℕ) → begins_lowered w cs ≡ true → length w ≤ length cs
+lowered_len : (w cs : List ℕ) → begins_ignore_case w cs ≡ true → length w ≤ length cs
 lowered_len [] cs h = omega arith
 lowered_len (x ∷ w) [] h = absurd cc
-lowered_len (x ∷ w) (c ∷ cs) h = omega (arith, lowered_len w cs (and_parts (x == lower c) (begins_lowered w cs) h).1)
+lowered_len (x ∷ w) (c ∷ cs) h = omega (arith, lowered_len w cs (and_parts (x == lower c) (begins_ignore_case w cs) h).1)
 
 -- a text that begins with a word of letters
 pub record Lettered (w bytes : List ℕ) : Type 0 where
   pub stream : input bytes ≡ take (length w) bytes ++ input (drop (length w) bytes)
   pub utf8 : IsUtf8 (drop (length w) bytes)
 
-lettered : (w bytes : List ℕ) → list_all is_letter w ≡ true → begins_lowered w bytes ≡ true → IsUtf8 bytes → Lettered w bytes
+lettered : (w bytes : List ℕ) → list_all is_letter w ≡ true → begins_ignore_case w bytes ≡ true → IsUtf8 bytes → Lettered w bytes
 lettered [] bytes h b utf8 = record { stream = refl; utf8 = utf8 }
 lettered (x ∷ w) [] h b utf8 = absurd cc
 lettered (x ∷ w) (d ∷ bytes) h b utf8 =
     let parts = and_parts (is_letter x) (list_all is_letter w) h in
-    let begun = and_parts (x == lower d) (begins_lowered w bytes) b in
+    let begun = and_parts (x == lower d) (begins_ignore_case w bytes) b in
     let letter = letter_of_lower x d parts.0 begun.0 in
     let rest = lettered w bytes parts.1 begun.1 (utf8_tail d bytes (small_letter d letter) utf8) in
     record {
@@ -173,7 +173,7 @@ lettered (x ∷ w) (d ∷ bytes) h b utf8 =
 
 -- ---- after `<!`
 
-pub doctype_here : (t : List ℕ) → IsUtf8 t → begins_lowered (codes "doctype") t ≡ true → (read Markup 0 (input t) ≡ read DoctypeBody 0 (input (drop 7 t))) × IsUtf8 (drop 7 t)
+pub doctype_here : (t : List ℕ) → IsUtf8 t → begins_ignore_case (codes "doctype") t ≡ true → (read Markup 0 (input t) ≡ read DoctypeBody 0 (input (drop 7 t))) × IsUtf8 (drop 7 t)
 doctype_here [] utf8 h = absurd (omega (arith, lowered_len (codes "doctype") [] h))
 doctype_here (a ∷ []) utf8 h = absurd (omega (arith, lowered_len (codes "doctype") (a ∷ []) h))
 doctype_here (a ∷ b ∷ []) utf8 h = absurd (omega (arith, lowered_len (codes "doctype") (a ∷ b ∷ []) h))
@@ -183,7 +183,7 @@ doctype_here (a ∷ b ∷ c ∷ d ∷ e ∷ []) utf8 h = absurd (omega (arith, l
 doctype_here (a ∷ b ∷ c ∷ d ∷ e ∷ f ∷ []) utf8 h = absurd (omega (arith, lowered_len (codes "doctype") (a ∷ b ∷ c ∷ d ∷ e ∷ f ∷ []) h))
 doctype_here (a ∷ b ∷ c ∷ d ∷ e ∷ f ∷ g ∷ u) utf8 h =
     let l = lettered (codes "doctype") (a ∷ b ∷ c ∷ d ∷ e ∷ f ∷ g ∷ u) refl h utf8 in
-    let first : (100 == lower a) ≡ true = (and_parts (100 == lower a) (begins_lowered (codes "octype") (b ∷ c ∷ d ∷ e ∷ f ∷ g ∷ u)) h).0 in
+    let first : (100 == lower a) ≡ true = (and_parts (100 == lower a) (begins_ignore_case (codes "octype") (b ∷ c ∷ d ∷ e ∷ f ∷ g ∷ u)) h).0 in
     let letter : is_letter a ≡ true = letter_of_lower 100 a refl first in
     let no_hyphen : (45 == a) ≡ false = grind (arith, nat_tests) in
     (ap (read Markup 0) l.stream ∙ doctype_read a b c d e f g (input u) no_hyphen (begins_taken (codes "doctype") (a ∷ b ∷ c ∷ d ∷ e ∷ f ∷ g ∷ u) ∙ h), l.utf8)
@@ -199,11 +199,11 @@ comment_here (a ∷ b ∷ t) utf8 h =
     let there = utf8_tail 45 t (omega arith) (utf8_tail 45 (45 ∷ t) (omega arith) (rw (x, y) at utf8)) in
     (rw (x, y, input-cons 45 (45 ∷ t) (omega arith) (λ (e : 45 ≡ 13). omega arith), input-cons 45 t (omega arith) (λ (e : 45 ≡ 13). omega arith)) (hyphens (input t)), there)
 
-bogus_markup : (cs : List ℕ) → begins_with (codes "--") cs ≡ false → begins_lowered (codes "doctype") cs ≡ false → read Markup 0 cs ≡ read (Bogus []) 0 cs
+bogus_markup : (cs : List ℕ) → begins_with (codes "--") cs ≡ false → begins_ignore_case (codes "doctype") cs ≡ false → read Markup 0 cs ≡ read (Bogus []) 0 cs
 bogus_markup [] h g = markup_nil
 bogus_markup (c ∷ cs) h g = reconsumed Markup (Bogus []) [] c cs (bogus_markup_look c cs h (begins_taken (codes "doctype") (c ∷ cs) ∙ g))
 
-pub bogus_here : (t : List ℕ) → IsUtf8 t → begins_with (codes "--") t ≡ false → begins_lowered (codes "doctype") t ≡ false → read Markup 0 (input t) ≡ read (Bogus []) 0 (input t)
+pub bogus_here : (t : List ℕ) → IsUtf8 t → begins_with (codes "--") t ≡ false → begins_ignore_case (codes "doctype") t ≡ false → read Markup 0 (input t) ≡ read (Bogus []) 0 (input t)
 bogus_here t utf8 h g = bogus_markup (input t) (begins_stream (codes "--") t refl utf8 ∙ h) (lowered_stream (codes "doctype") t refl utf8 ∙ g)
 
 -- ---- what opens
@@ -231,7 +231,7 @@ bang_opens t utf8 = elim (cases_Bool (begins_with (codes "--") t)) [
   | inl is ↦
       let h = comment_here t utf8 is in
       rw is record { utf8 = h.1; within = omega (arith, begins-len (codes "--") t is); reads = bang_in t ∙ h.0; tag = tt }
-  | inr other ↦ elim (cases_Bool (begins_lowered (codes "doctype") t)) [
+  | inr other ↦ elim (cases_Bool (begins_ignore_case (codes "doctype") t)) [
     | inl is ↦
         let h = doctype_here t utf8 is in
         rw (other, is) record { utf8 = h.1; within = omega (arith, lowered_len (codes "doctype") t is); reads = bang_in t ∙ h.0; tag = tt }

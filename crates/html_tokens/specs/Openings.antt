@@ -2,7 +2,7 @@
 use Rattle.std.specs.Prelude.{◌≡◌, ℕ, Bool, true, false, ◌&&◌, ◌==◌, if◌then◌else◌, List, [], ◌∷◌, codes}
 use Rattle.html_syntax.specs.Characters.{exclamation_mark, less_than, solidus, greater_than, question_mark, is_letter}
 use Rattle.html_syntax.specs.References.{begins_with}
-use Rattle.html_references.specs.Prefixes.{begins_lowered}
+use Rattle.html_references.specs.Prefixes.{begins_ignore_case}
 use Rattle.html_tokens.specs.Scanned.{opens_start, opens_end}
 use Rattle.html_syntax.specs.States.{State, new_tag}
 use Rattle.html_syntax.specs.States.State.{TagName, Bogus, CommentStart, DoctypeBody}
@@ -37,7 +37,7 @@ begins_empty [] = false
 abbrev pub after_bang : List ℕ → Opening
 after_bang text =
     if begins_with (codes "--") text then opening.Comment
-    else (if begins_lowered (codes "doctype") text then opening.Doctype
+    else (if begins_ignore_case (codes "doctype") text then opening.Doctype
     else opening.Bogus)
 
 abbrev pub after_solidus : List ℕ → Opening

@@ -10,25 +10,25 @@ use Rattle.html_tokens.proofs.script.mark.Goals as goal
 said : (test : List ℕ → Bool) (text bytes : List ℕ) (result answer : Bool) → bytes ≡ text → result ≡ test bytes → result ≡ answer → test text ≡ answer
 said test text bytes result answer value is was = ap test (sym value) ∙ sym is ∙ was
 
-pub returns-then-begins_by-clause-reads : goal.returns-then-begins_by-clause-reads
-returns-then-begins_by-clause-reads c =
-    rw c.in-Plain.is (escapes c.args.rest.now c.utf8.rest (said (begins_with (60 ∷ 33 ∷ 45 ∷ 45 ∷ [])) c.args.rest.now c.as_bytes-bytes.result.now c.begins_by.result true c.as_bytes-bytes.ensures.value c.begins_by.ensures c.if-begins_by.true)).reads
+pub returns-then-begins_with-clause-reads : goal.returns-then-begins_with-clause-reads
+returns-then-begins_with-clause-reads c =
+    rw c.in-Plain.is (escapes c.args.rest.now c.utf8.rest (said (begins_with (60 ∷ 33 ∷ 45 ∷ 45 ∷ [])) c.args.rest.now c.as_bytes-bytes.result.now c.begins_with.result true c.as_bytes-bytes.ensures.value c.begins_with.ensures c.if-begins_with.true)).reads
 
-pub returns-else-begins_by-clause-boundary : goal.returns-else-begins_by-clause-boundary
-returns-else-begins_by-clause-boundary c =
-    (plain_one c.args.rest.now c.utf8.rest c.requires.some c.requires.begins (subst (λ (p : Phase). ends_script p c.args.rest.now ≡ false) c.in-Plain.is c.requires.goes_on) (said (begins_with (60 ∷ 33 ∷ 45 ∷ 45 ∷ [])) c.args.rest.now c.as_bytes-bytes.result.now c.begins_by.result false c.as_bytes-bytes.ensures.value c.begins_by.ensures c.if-begins_by.false)).boundary
+pub returns-else-begins_with-clause-boundary : goal.returns-else-begins_with-clause-boundary
+returns-else-begins_with-clause-boundary c =
+    (plain_one c.args.rest.now c.utf8.rest c.requires.some c.requires.begins (subst (λ (p : Phase). ends_script p c.args.rest.now ≡ false) c.in-Plain.is c.requires.goes_on) (said (begins_with (60 ∷ 33 ∷ 45 ∷ 45 ∷ [])) c.args.rest.now c.as_bytes-bytes.result.now c.begins_with.result false c.as_bytes-bytes.ensures.value c.begins_with.ensures c.if-begins_with.false)).boundary
 
-pub returns-else-begins_by-clause-reads : goal.returns-else-begins_by-clause-reads
-returns-else-begins_by-clause-reads c =
-    rw c.in-Plain.is (plain_one c.args.rest.now c.utf8.rest c.requires.some c.requires.begins (subst (λ (p : Phase). ends_script p c.args.rest.now ≡ false) c.in-Plain.is c.requires.goes_on) (said (begins_with (60 ∷ 33 ∷ 45 ∷ 45 ∷ [])) c.args.rest.now c.as_bytes-bytes.result.now c.begins_by.result false c.as_bytes-bytes.ensures.value c.begins_by.ensures c.if-begins_by.false)).reads
+pub returns-else-begins_with-clause-reads : goal.returns-else-begins_with-clause-reads
+returns-else-begins_with-clause-reads c =
+    rw c.in-Plain.is (plain_one c.args.rest.now c.utf8.rest c.requires.some c.requires.begins (subst (λ (p : Phase). ends_script p c.args.rest.now ≡ false) c.in-Plain.is c.requires.goes_on) (said (begins_with (60 ∷ 33 ∷ 45 ∷ 45 ∷ [])) c.args.rest.now c.as_bytes-bytes.result.now c.begins_with.result false c.as_bytes-bytes.ensures.value c.begins_with.ensures c.if-begins_with.false)).reads
 
-pub returns-then-begins_by-2-clause-boundary : goal.returns-then-begins_by-2-clause-boundary
-returns-then-begins_by-2-clause-boundary c =
-    (closes_escape c.args.rest.now c.utf8.rest (said (begins_with (45 ∷ 45 ∷ 62 ∷ [])) c.args.rest.now c.as_bytes-bytes.result.now c.begins_by-in-Escaped.result true c.as_bytes-bytes.ensures.value c.begins_by-in-Escaped.ensures c.if-begins_by-2.true)).boundary
+pub returns-then-begins_with-2-clause-boundary : goal.returns-then-begins_with-2-clause-boundary
+returns-then-begins_with-2-clause-boundary c =
+    (closes_escape c.args.rest.now c.utf8.rest (said (begins_with (45 ∷ 45 ∷ 62 ∷ [])) c.args.rest.now c.as_bytes-bytes.result.now c.begins_with-in-Escaped.result true c.as_bytes-bytes.ensures.value c.begins_with-in-Escaped.ensures c.if-begins_with-2.true)).boundary
 
-pub returns-then-begins_by-2-clause-reads : goal.returns-then-begins_by-2-clause-reads
-returns-then-begins_by-2-clause-reads c =
-    rw c.in-Escaped.is (closes_escape c.args.rest.now c.utf8.rest (said (begins_with (45 ∷ 45 ∷ 62 ∷ [])) c.args.rest.now c.as_bytes-bytes.result.now c.begins_by-in-Escaped.result true c.as_bytes-bytes.ensures.value c.begins_by-in-Escaped.ensures c.if-begins_by-2.true)).reads
+pub returns-then-begins_with-2-clause-reads : goal.returns-then-begins_with-2-clause-reads
+returns-then-begins_with-2-clause-reads c =
+    rw c.in-Escaped.is (closes_escape c.args.rest.now c.utf8.rest (said (begins_with (45 ∷ 45 ∷ 62 ∷ [])) c.args.rest.now c.as_bytes-bytes.result.now c.begins_with-in-Escaped.result true c.as_bytes-bytes.ensures.value c.begins_with-in-Escaped.ensures c.if-begins_with-2.true)).reads
 
 pub returns-then-begins_named-clause-reads : goal.returns-then-begins_named-clause-reads
 returns-then-begins_named-clause-reads c =
@@ -36,28 +36,28 @@ returns-then-begins_named-clause-reads c =
 
 pub returns-else-begins_named-clause-boundary : goal.returns-else-begins_named-clause-boundary
 returns-else-begins_named-clause-boundary c =
-    (escaped_one c.args.rest.now c.utf8.rest c.requires.some c.requires.begins (subst (λ (p : Phase). ends_script p c.args.rest.now ≡ false) c.in-Escaped.is c.requires.goes_on) (said (begins_with (45 ∷ 45 ∷ 62 ∷ [])) c.args.rest.now c.as_bytes-bytes.result.now c.begins_by-in-Escaped.result false c.as_bytes-bytes.ensures.value c.begins_by-in-Escaped.ensures c.if-begins_by-2.false) (said (named (60 ∷ codes "script")) c.args.rest.now c.as_bytes-bytes.result.now c.begins_named.result false c.as_bytes-bytes.ensures.value c.begins_named.ensures c.if-begins_named.false)).boundary
+    (escaped_one c.args.rest.now c.utf8.rest c.requires.some c.requires.begins (subst (λ (p : Phase). ends_script p c.args.rest.now ≡ false) c.in-Escaped.is c.requires.goes_on) (said (begins_with (45 ∷ 45 ∷ 62 ∷ [])) c.args.rest.now c.as_bytes-bytes.result.now c.begins_with-in-Escaped.result false c.as_bytes-bytes.ensures.value c.begins_with-in-Escaped.ensures c.if-begins_with-2.false) (said (named (60 ∷ codes "script")) c.args.rest.now c.as_bytes-bytes.result.now c.begins_named.result false c.as_bytes-bytes.ensures.value c.begins_named.ensures c.if-begins_named.false)).boundary
 
 pub returns-else-begins_named-clause-reads : goal.returns-else-begins_named-clause-reads
 returns-else-begins_named-clause-reads c =
-    rw c.in-Escaped.is (escaped_one c.args.rest.now c.utf8.rest c.requires.some c.requires.begins (subst (λ (p : Phase). ends_script p c.args.rest.now ≡ false) c.in-Escaped.is c.requires.goes_on) (said (begins_with (45 ∷ 45 ∷ 62 ∷ [])) c.args.rest.now c.as_bytes-bytes.result.now c.begins_by-in-Escaped.result false c.as_bytes-bytes.ensures.value c.begins_by-in-Escaped.ensures c.if-begins_by-2.false) (said (named (60 ∷ codes "script")) c.args.rest.now c.as_bytes-bytes.result.now c.begins_named.result false c.as_bytes-bytes.ensures.value c.begins_named.ensures c.if-begins_named.false)).reads
+    rw c.in-Escaped.is (escaped_one c.args.rest.now c.utf8.rest c.requires.some c.requires.begins (subst (λ (p : Phase). ends_script p c.args.rest.now ≡ false) c.in-Escaped.is c.requires.goes_on) (said (begins_with (45 ∷ 45 ∷ 62 ∷ [])) c.args.rest.now c.as_bytes-bytes.result.now c.begins_with-in-Escaped.result false c.as_bytes-bytes.ensures.value c.begins_with-in-Escaped.ensures c.if-begins_with-2.false) (said (named (60 ∷ codes "script")) c.args.rest.now c.as_bytes-bytes.result.now c.begins_named.result false c.as_bytes-bytes.ensures.value c.begins_named.ensures c.if-begins_named.false)).reads
 
-pub returns-then-begins_by-3-clause-boundary : goal.returns-then-begins_by-3-clause-boundary
-returns-then-begins_by-3-clause-boundary c =
-    (closes_double c.args.rest.now c.utf8.rest (said (begins_with (45 ∷ 45 ∷ 62 ∷ [])) c.args.rest.now c.as_bytes-bytes.result.now c.begins_by-in-DoubleEscaped.result true c.as_bytes-bytes.ensures.value c.begins_by-in-DoubleEscaped.ensures c.if-begins_by-3.true)).boundary
+pub returns-then-begins_with-3-clause-boundary : goal.returns-then-begins_with-3-clause-boundary
+returns-then-begins_with-3-clause-boundary c =
+    (closes_double c.args.rest.now c.utf8.rest (said (begins_with (45 ∷ 45 ∷ 62 ∷ [])) c.args.rest.now c.as_bytes-bytes.result.now c.begins_with-in-DoubleEscaped.result true c.as_bytes-bytes.ensures.value c.begins_with-in-DoubleEscaped.ensures c.if-begins_with-3.true)).boundary
 
-pub returns-then-begins_by-3-clause-reads : goal.returns-then-begins_by-3-clause-reads
-returns-then-begins_by-3-clause-reads c =
-    rw c.in-DoubleEscaped.is (closes_double c.args.rest.now c.utf8.rest (said (begins_with (45 ∷ 45 ∷ 62 ∷ [])) c.args.rest.now c.as_bytes-bytes.result.now c.begins_by-in-DoubleEscaped.result true c.as_bytes-bytes.ensures.value c.begins_by-in-DoubleEscaped.ensures c.if-begins_by-3.true)).reads
+pub returns-then-begins_with-3-clause-reads : goal.returns-then-begins_with-3-clause-reads
+returns-then-begins_with-3-clause-reads c =
+    rw c.in-DoubleEscaped.is (closes_double c.args.rest.now c.utf8.rest (said (begins_with (45 ∷ 45 ∷ 62 ∷ [])) c.args.rest.now c.as_bytes-bytes.result.now c.begins_with-in-DoubleEscaped.result true c.as_bytes-bytes.ensures.value c.begins_with-in-DoubleEscaped.ensures c.if-begins_with-3.true)).reads
 
 pub returns-then-begins_named-2-clause-reads : goal.returns-then-begins_named-2-clause-reads
 returns-then-begins_named-2-clause-reads c =
-    rw c.in-DoubleEscaped.is (leaves_double c.args.rest.now (said (named (60 ∷ 47 ∷ codes "script")) c.args.rest.now c.as_bytes-bytes.result.now c.begins_named-else-begins_by-3.result true c.as_bytes-bytes.ensures.value c.begins_named-else-begins_by-3.ensures c.if-begins_named-2.true))
+    rw c.in-DoubleEscaped.is (leaves_double c.args.rest.now (said (named (60 ∷ 47 ∷ codes "script")) c.args.rest.now c.as_bytes-bytes.result.now c.begins_named-else-begins_with-3.result true c.as_bytes-bytes.ensures.value c.begins_named-else-begins_with-3.ensures c.if-begins_named-2.true))
 
 pub returns-else-begins_named-2-clause-boundary : goal.returns-else-begins_named-2-clause-boundary
 returns-else-begins_named-2-clause-boundary c =
-    (double_one c.args.rest.now c.utf8.rest c.requires.some c.requires.begins (said (begins_with (45 ∷ 45 ∷ 62 ∷ [])) c.args.rest.now c.as_bytes-bytes.result.now c.begins_by-in-DoubleEscaped.result false c.as_bytes-bytes.ensures.value c.begins_by-in-DoubleEscaped.ensures c.if-begins_by-3.false) (said (named (60 ∷ 47 ∷ codes "script")) c.args.rest.now c.as_bytes-bytes.result.now c.begins_named-else-begins_by-3.result false c.as_bytes-bytes.ensures.value c.begins_named-else-begins_by-3.ensures c.if-begins_named-2.false)).boundary
+    (double_one c.args.rest.now c.utf8.rest c.requires.some c.requires.begins (said (begins_with (45 ∷ 45 ∷ 62 ∷ [])) c.args.rest.now c.as_bytes-bytes.result.now c.begins_with-in-DoubleEscaped.result false c.as_bytes-bytes.ensures.value c.begins_with-in-DoubleEscaped.ensures c.if-begins_with-3.false) (said (named (60 ∷ 47 ∷ codes "script")) c.args.rest.now c.as_bytes-bytes.result.now c.begins_named-else-begins_with-3.result false c.as_bytes-bytes.ensures.value c.begins_named-else-begins_with-3.ensures c.if-begins_named-2.false)).boundary
 
 pub returns-else-begins_named-2-clause-reads : goal.returns-else-begins_named-2-clause-reads
 returns-else-begins_named-2-clause-reads c =
-    rw c.in-DoubleEscaped.is (double_one c.args.rest.now c.utf8.rest c.requires.some c.requires.begins (said (begins_with (45 ∷ 45 ∷ 62 ∷ [])) c.args.rest.now c.as_bytes-bytes.result.now c.begins_by-in-DoubleEscaped.result false c.as_bytes-bytes.ensures.value c.begins_by-in-DoubleEscaped.ensures c.if-begins_by-3.false) (said (named (60 ∷ 47 ∷ codes "script")) c.args.rest.now c.as_bytes-bytes.result.now c.begins_named-else-begins_by-3.result false c.as_bytes-bytes.ensures.value c.begins_named-else-begins_by-3.ensures c.if-begins_named-2.false)).reads
+    rw c.in-DoubleEscaped.is (double_one c.args.rest.now c.utf8.rest c.requires.some c.requires.begins (said (begins_with (45 ∷ 45 ∷ 62 ∷ [])) c.args.rest.now c.as_bytes-bytes.result.now c.begins_with-in-DoubleEscaped.result false c.as_bytes-bytes.ensures.value c.begins_with-in-DoubleEscaped.ensures c.if-begins_with-3.false) (said (named (60 ∷ 47 ∷ codes "script")) c.args.rest.now c.as_bytes-bytes.result.now c.begins_named-else-begins_with-3.result false c.as_bytes-bytes.ensures.value c.begins_named-else-begins_with-3.ensures c.if-begins_named-2.false)).reads

@@ -1,7 +1,7 @@
 use Rattle.std.proofs.Common.{◌≡◌, ◌+◌, drop}
 use Rattle.std.specs.List.{prefix_len}
 use Rattle.html_references.specs.CodeReferences.{digit_test}
-use Rattle.html_references.proofs.references.leading.Given as goal
+use Rattle.html_references.proofs.references.leading_digits.Given as goal
 
 abbrev pub invariant-loop-c : goal.invariant-loop-c
 invariant-loop-c l = record {

@@ -1,7 +1,7 @@
 use Rattle.std.proofs.Common.{refl, sym, rules}
 use Rattle.html_references.specs.CodeReferences.{listed_names}
 use Rattle.html_references.proofs.FirstLetters.{none_with}
-use Rattle.html_references.proofs.names.names_with.Goals as goal
+use Rattle.html_references.proofs.names.names_with_first.Goals as goal
 
 pub returns-in-65 : goal.returns-in-65
 unfolding listed_names
