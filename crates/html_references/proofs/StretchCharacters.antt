@@ -1,5 +1,5 @@
 -- A stretch of text that isn't empty reads as a character at least.
-use Rattle.std.proofs.Common.{◌≡◌, ◌≢◌, ℕ, Bool, true, false, not, ◌&&◌, ◌||◌, ◌==◌, List, [], ◌∷◌, ◌++◌, length, drop, Option, Some, None, refl, sym, ap, ◌∙◌, inl, inr, IsUtf8}
+use Rattle.std.proofs.Common.{◌≡◌, ◌≢◌, ℕ, Bool, true, false, not, ◌&&◌, ◌||◌, ◌==◌, List, [], ◌∷◌, length, drop, Option, Some, None, refl, sym, ap, ◌∙◌, inl, inr, IsUtf8}
 use Rattle.std.proofs.lemmas.Bool.{cases_Bool}
 use Rattle.html_syntax.specs.Names.{Name, names}
 use Rattle.html_syntax.specs.References.{Reference, reference, number_reference, digits_reference, name_reference, longest, is_closed, continues_name}
@@ -7,7 +7,7 @@ use Rattle.html_syntax.specs.States.{replace_null}
 use Rattle.html_references.specs.Input.{input, decode_references, read_as}
 use Rattle.html_references.specs.declared.stretch.ReadAs.{ReadAs}
 use Rattle.html_references.specs.declared.stretch.ReadAs.TheVariants as reads
-use Rattle.html_references.proofs.Stretches.{First, input-first}
+use Rattle.html_references.proofs.Stretches.{input-first}
 
 -- the reference is one character
 abbrev HasOneChar : Reference → Type 0
