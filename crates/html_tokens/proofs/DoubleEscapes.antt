@@ -16,7 +16,7 @@ use Rattle.html_syntax.specs.States.Action.{ReconsumeIn}
 use Rattle.html_syntax.specs.Rows.{double_escape_state}
 use Rattle.html_syntax.specs.Tokenizer.{look, look_again, step, read, tokens_at_end, chars}
 use Rattle.html_references.specs.Input.{input}
-use Rattle.html_tokens.specs.Contents.{ends_name, named}
+use Rattle.html_tokens.specs.Contents.{ends_name, begins_with_name}
 use Rattle.html_tokens.proofs.Runs.{reconsumed}
 use Rattle.html_references.proofs.Stretches.{input-cons, input-nil, utf8_tail}
 use Rattle.html_tokens.proofs.EndTags.{Fails, fails_at, fails_on, fails_here, is_unended, Unended, unended, is_unended_from, first_unended, first_unnamed, no_letter, letter_small, input-letter, lowered_letter, return_first}
@@ -146,7 +146,7 @@ doubles_not L goal back l letters (b ∷ bytes) utf8 h = elim (cases_Bool (is_le
 ]
 
 -- other letters than `script` leave the state as it was
-pub no_double : (L : List ℕ → State) (goal back : State) → Letters L goal back → (bytes : List ℕ) → IsUtf8 bytes → named script bytes ≡ false → read (L []) 0 (input bytes) ≡ read back 0 (input bytes)
+pub no_double : (L : List ℕ → State) (goal back : State) → Letters L goal back → (bytes : List ℕ) → IsUtf8 bytes → begins_with_name script bytes ≡ false → read (L []) 0 (input bytes) ≡ read back 0 (input bytes)
 no_double L goal back l bytes utf8 h = doubles_not L goal back l [] bytes utf8 (fails_at script bytes h)
 
 -- ---- where they are
@@ -188,7 +188,7 @@ doubled_on : (L : List ℕ → State) (goal back : State) → Letters L goal bac
 doubled_on L goal back l letters n b bytes is h =
     rw (input-letter b bytes is, input-letter b (take n bytes) is) (l.letter letters b (input bytes) is ∙ ap (λ (t : List Token). Char (replace_null b) ∷ t) h)
 
-doubles : (L : List ℕ → State) (goal back : State) → Letters L goal back → (letters w bytes : List ℕ) → list_all is_letter w ≡ true → script ≡ map lower letters ++ w → named w bytes ≡ true → Doubles L goal letters (length w) bytes
+doubles : (L : List ℕ → State) (goal back : State) → Letters L goal back → (letters w bytes : List ℕ) → list_all is_letter w ≡ true → script ≡ map lower letters ++ w → begins_with_name w bytes ≡ true → Doubles L goal letters (length w) bytes
 doubles L goal back l letters [] [] all e h = absurd cc
 doubles L goal back l letters [] (b ∷ bytes) all e h =
     let g : script ≡ map lower letters = e ∙ append-nil (map lower letters) in
@@ -206,5 +206,5 @@ doubles L goal back l letters (x ∷ w) (b ∷ bytes) all e h =
     (doubles L goal back l (letters ++ b ∷ []) w bytes letters_all.1 split (and_from (begins_with w (map lower bytes)) (ends_name (drop (length w) bytes)) parts.1 both.1))
 
 -- the letters `script`, before what ends a name
-pub double : (L : List ℕ → State) (goal back : State) → Letters L goal back → (bytes : List ℕ) → named script bytes ≡ true → read (L []) 0 (input bytes) ≡ chars (map replace_null (input (take 6 bytes))) ++ read goal 0 (input (drop 6 bytes))
+pub double : (L : List ℕ → State) (goal back : State) → Letters L goal back → (bytes : List ℕ) → begins_with_name script bytes ≡ true → read (L []) 0 (input bytes) ≡ chars (map replace_null (input (take 6 bytes))) ++ read goal 0 (input (drop 6 bytes))
 double L goal back l bytes h = doubles L goal back l [] script bytes refl refl h

@@ -13,7 +13,7 @@ use Rattle.html_syntax.specs.States.Action.{ReconsumeIn, SwitchPast}
 use Rattle.html_syntax.specs.Tokenizer.{look, look_again, step, read, tokens_at_end}
 use Rattle.html_references.specs.Input.{input}
 use Rattle.html_references.specs.Prefixes.{begins_ignore_case}
-use Rattle.html_tokens.specs.Openings.{opening_len, state_after, after_bang, after_solidus, opening_of, OpensTag, begins_empty}
+use Rattle.html_tokens.specs.Openings.{opening_len, state_after_opening, opening_after_bang, opening_after_solidus, opening_of, OpensTag, begins_empty_tag}
 use Rattle.html_tokens.specs.Scanned.{opens_markup, opens_start, opens_end}
 use Rattle.html_tokens.specs.declared.markup.Opening.{Opening}
 use Rattle.html_tokens.specs.declared.markup.Opening.TheVariants as opening
@@ -211,7 +211,7 @@ bogus_here t utf8 h g = bogus_markup (input t) (begins_stream (codes "--") t ref
 pub record Opened (rest : List ℕ) (o : Opening) : Type 0 where
   pub utf8 : IsUtf8 (drop (opening_len o) rest)
   pub within : opening_len o ≤ length rest
-  pub reads : read Data 0 (input rest) ≡ read (state_after o) 0 (input (drop (opening_len o) rest))
+  pub reads : read Data 0 (input rest) ≡ read (state_after_opening o) 0 (input (drop (opening_len o) rest))
   pub tag : OpensTag rest o
 
 ascii : (b : ℕ) (bytes : List ℕ) → b < 128 → b ≢ 13 → input (b ∷ bytes) ≡ b ∷ input bytes
@@ -226,7 +226,7 @@ bang_in bytes = rw (less (33 ∷ bytes), input-cons 33 bytes (omega arith) (λ (
 solidus_in : (bytes : List ℕ) → read Data 0 (input (60 ∷ 47 ∷ bytes)) ≡ read EndTagOpen 0 (input bytes)
 solidus_in bytes = rw (less (47 ∷ bytes), input-cons 47 bytes (omega arith) (λ (e : 47 ≡ 13). omega arith)) (tag_open (47 ∷ input bytes) ∙ end_tag_open (input bytes))
 
-bang_opens : (t : List ℕ) → IsUtf8 t → Opened (60 ∷ 33 ∷ t) (after_bang t)
+bang_opens : (t : List ℕ) → IsUtf8 t → Opened (60 ∷ 33 ∷ t) (opening_after_bang t)
 bang_opens t utf8 = elim (cases_Bool (begins_with (codes "--") t)) [
   | inl is ↦
       let h = comment_here t utf8 is in
@@ -242,7 +242,7 @@ bang_opens t utf8 = elim (cases_Bool (begins_with (codes "--") t)) [
 end_nil : read EndTagOpen 0 (input []) ≡ read EndTagOpen 0 []
 end_nil = rw input-nil refl
 
-end_opens : (c : ℕ) (t : List ℕ) → IsUtf8 (c ∷ t) → (c == 62) ≡ false → Opened (60 ∷ 47 ∷ c ∷ t) (after_solidus (c ∷ t))
+end_opens : (c : ℕ) (t : List ℕ) → IsUtf8 (c ∷ t) → (c == 62) ≡ false → Opened (60 ∷ 47 ∷ c ∷ t) (opening_after_solidus (c ∷ t))
 end_opens c t utf8 h = elim (cases_Bool (is_letter c)) [
   | inl is ↦
       let same : input (c ∷ t) ≡ c ∷ input t = input-cons c t (small_letter c is) (no_return_letter c is) in
@@ -277,7 +277,7 @@ start_opens c t utf8 is =
       tag = is;
     }
 
-solidus_opens : (t : List ℕ) → IsUtf8 t → opens_markup (60 ∷ 47 ∷ t) ≡ true → begins_empty (60 ∷ 47 ∷ t) ≡ false → Opened (60 ∷ 47 ∷ t) (after_solidus t)
+solidus_opens : (t : List ℕ) → IsUtf8 t → opens_markup (60 ∷ 47 ∷ t) ≡ true → begins_empty_tag (60 ∷ 47 ∷ t) ≡ false → Opened (60 ∷ 47 ∷ t) (opening_after_solidus t)
 solidus_opens [] utf8 h g = absurd cc
 solidus_opens (c ∷ t) utf8 h g = end_opens c t utf8 g
 
@@ -285,7 +285,7 @@ only : (x : Bool) → (x || false || false || false) ≡ true → x ≡ true
 only true h = refl
 only false h = h
 
-opened_two : (b : ℕ) (t : List ℕ) → IsUtf8 (b ∷ t) → opens_markup (60 ∷ b ∷ t) ≡ true → begins_empty (60 ∷ b ∷ t) ≡ false → Opened (60 ∷ b ∷ t) (opening_of (60 ∷ b ∷ t))
+opened_two : (b : ℕ) (t : List ℕ) → IsUtf8 (b ∷ t) → opens_markup (60 ∷ b ∷ t) ≡ true → begins_empty_tag (60 ∷ b ∷ t) ≡ false → Opened (60 ∷ b ∷ t) (opening_of (60 ∷ b ∷ t))
 opened_two b t utf8 h g = elim (cases_Bool (b == 33)) [
   | inl is ↦
       let e : b ≡ 33 = eqb-true b 33 is in
@@ -297,7 +297,7 @@ opened_two b t utf8 h g = elim (cases_Bool (b == 33)) [
     | inr question ↦ elim (cases_Bool (b == 47)) [
       | inl is ↦
           let e : b ≡ 47 = eqb-true b 47 is in
-          rw e (solidus_opens t (utf8_tail b t (omega (arith, e)) utf8) (subst (λ (x : ℕ). opens_markup (60 ∷ x ∷ t) ≡ true) e h) (subst (λ (x : ℕ). begins_empty (60 ∷ x ∷ t) ≡ false) e g))
+          rw e (solidus_opens t (utf8_tail b t (omega (arith, e)) utf8) (subst (λ (x : ℕ). opens_markup (60 ∷ x ∷ t) ≡ true) e h) (subst (λ (x : ℕ). begins_empty_tag (60 ∷ x ∷ t) ≡ false) e g))
       | inr solidus ↦
           let letter : is_letter b ≡ true = only (is_letter b) (rw (bang, question, solidus) at h) in
           rw (bang, question, solidus) (start_opens b t utf8 letter)
@@ -306,12 +306,12 @@ opened_two b t utf8 h g = elim (cases_Bool (b == 33)) [
 ]
 
 -- nothing but markup, of which `</>` is none
-pub opened_by : (rest : List ℕ) → IsUtf8 rest → opens_markup rest ≡ true → begins_empty rest ≡ false → Opened rest (opening_of rest)
+pub opened_by : (rest : List ℕ) → IsUtf8 rest → opens_markup rest ≡ true → begins_empty_tag rest ≡ false → Opened rest (opening_of rest)
 opened_by [] utf8 h g = absurd cc
 opened_by (a ∷ []) utf8 h g = absurd cc
 opened_by (a ∷ b ∷ t) utf8 h g =
     let e : a ≡ 60 = eqb-true a 60 (and_parts (a == 60) _ h).0 in
-    rw e (opened_two b t (utf8_tail 60 (b ∷ t) (omega arith) (rw e at utf8)) (subst (λ (x : ℕ). opens_markup (x ∷ b ∷ t) ≡ true) e h) (subst (λ (x : ℕ). begins_empty (x ∷ b ∷ t) ≡ false) e g))
+    rw e (opened_two b t (utf8_tail 60 (b ∷ t) (omega arith) (rw e at utf8)) (subst (λ (x : ℕ). opens_markup (x ∷ b ∷ t) ≡ true) e h) (subst (λ (x : ℕ). begins_empty_tag (x ∷ b ∷ t) ≡ false) e g))
 
 pub opened_boundary : (rest : List ℕ) (o : Opening) → Opened rest o → IsCharBoundary rest (opening_len o)
 opened_boundary rest o h = IsCharBoundary-from_drop rest (opening_len o) h.within h.utf8
@@ -329,7 +329,7 @@ empty_three t utf8 = record {
   within = omega arith;
 }
 
-pub empty_here : (rest : List ℕ) → IsUtf8 rest → begins_empty rest ≡ true → Empty rest
+pub empty_here : (rest : List ℕ) → IsUtf8 rest → begins_empty_tag rest ≡ true → Empty rest
 empty_here [] utf8 h = absurd cc
 empty_here (a ∷ []) utf8 h = absurd cc
 empty_here (a ∷ b ∷ []) utf8 h = absurd cc
@@ -341,7 +341,7 @@ empty_here (a ∷ b ∷ c ∷ t) utf8 h =
     let z : c ≡ 62 = eqb-true c 62 first.1 in
     rw (x, y, z) (empty_three t (rw (x, y, z) at utf8))
 
-pub empty_next : (rest : List ℕ) (at : ℕ) → IsUtf8 rest → IsCharBoundary rest at → begins_empty (drop at rest) ≡ true → read Data 0 (input rest) ≡ read Data 0 (input (drop at rest))
+pub empty_next : (rest : List ℕ) (at : ℕ) → IsUtf8 rest → IsCharBoundary rest at → begins_empty_tag (drop at rest) ≡ true → read Data 0 (input rest) ≡ read Data 0 (input (drop at rest))
     → IsCharBoundary rest (at + 3) × (read Data 0 (input rest) ≡ read Data 0 (input (drop (at + 3) rest)))
 empty_next rest at utf8 cut h before =
     let e = empty_here (drop at rest) (IsUtf8-drop rest at utf8 cut) h in (
