@@ -7,7 +7,7 @@ ghost use Rattle.html_references.specs.Input.{input};
 ghost use Rattle.html_tokens.specs.Scripts.{script_state, ReadsPassage, BeginsWithMark, LacksMarks, ends_script};
 ghost use Rattle.html_syntax.specs.States.{replace_null};
 ghost use Rattle.html_tokens.specs.Contents.{begins_end_tag as content_closes};
-ghost use Rattle.html_tokens.specs.declared.script.Phase.TheVariants.{Plain};
+ghost use Rattle.html_tokens.specs.declared.script.Phase.TheVariants.{Plain, Escaped, DoubleEscaped};
 ghost use Rattle.html_tokens.specs.declared.mode.Content.TheVariants.{Script};
 
 use crate::cuts::skip_to_byte;
@@ -41,8 +41,90 @@ fn ends_script(phase: Phase, rest: &str) -> bool
     }
 }
 
-/// How long the text is that may change the phase, with which a part of a script begins, and the phase after it. What ends the
-/// name of a `<script` is read in that phase.
+/// Reads a mark of a plain script: `<!--` begins an escape. Its hyphens are left, since a `-->` may begin with them.
+fn read_plain_mark(rest: &str) -> Passage
+    requires begins { BeginsWithMark rest.now }
+    requires nonempty { 0 < length rest.now }
+    requires not_ended { ends_script Plain rest.now ≡ false }
+    ensures nonempty { 0 < result.len }
+    ensures boundary { IsCharBoundary rest.now result.len }
+    ensures plain { LacksByte 13 (take result.len rest.now) }
+    ensures reads { ReadsPassage Plain rest.now result.len result.phase }
+{
+    let bytes = rest.as_bytes();
+    if begins_with(b"<!--", bytes) {
+        Passage {
+            len: 2,
+            phase: Phase::Escaped,
+        }
+    } else {
+        Passage {
+            len: 1,
+            phase: Phase::Plain,
+        }
+    }
+}
+
+/// Reads a mark of an escaped script: `-->` ends the escape, and `<script` begins another in it. What ends the name of the
+/// `<script` is left.
+fn read_escaped_mark(rest: &str) -> Passage
+    requires begins { BeginsWithMark rest.now }
+    requires nonempty { 0 < length rest.now }
+    requires not_ended { ends_script Escaped rest.now ≡ false }
+    ensures nonempty { 0 < result.len }
+    ensures boundary { IsCharBoundary rest.now result.len }
+    ensures plain { LacksByte 13 (take result.len rest.now) }
+    ensures reads { ReadsPassage Escaped rest.now result.len result.phase }
+{
+    let bytes = rest.as_bytes();
+    if begins_with(b"-->", bytes) {
+        Passage {
+            len: 3,
+            phase: Phase::Plain,
+        }
+    } else if begins_with_name(b"<script", bytes) {
+        Passage {
+            len: 7,
+            phase: Phase::DoubleEscaped,
+        }
+    } else {
+        Passage {
+            len: 1,
+            phase: Phase::Escaped,
+        }
+    }
+}
+
+/// Reads a mark of a script that is escaped twice: `-->` ends both escapes, and `</script` the inner one.
+fn read_double_mark(rest: &str) -> Passage
+    requires begins { BeginsWithMark rest.now }
+    requires nonempty { 0 < length rest.now }
+    requires not_ended { ends_script DoubleEscaped rest.now ≡ false }
+    ensures nonempty { 0 < result.len }
+    ensures boundary { IsCharBoundary rest.now result.len }
+    ensures plain { LacksByte 13 (take result.len rest.now) }
+    ensures reads { ReadsPassage DoubleEscaped rest.now result.len result.phase }
+{
+    let bytes = rest.as_bytes();
+    if begins_with(b"-->", bytes) {
+        Passage {
+            len: 3,
+            phase: Phase::Plain,
+        }
+    } else if begins_with_name(b"</script", bytes) {
+        Passage {
+            len: 8,
+            phase: Phase::Escaped,
+        }
+    } else {
+        Passage {
+            len: 1,
+            phase: Phase::DoubleEscaped,
+        }
+    }
+}
+
+/// Reads the mark that the text begins with: a prefix that may change the phase, and the phase after it.
 fn read_mark(phase: Phase, rest: &str) -> Passage
     requires begins { BeginsWithMark rest.now }
     requires nonempty { 0 < length rest.now }
@@ -52,43 +134,10 @@ fn read_mark(phase: Phase, rest: &str) -> Passage
     ensures plain { LacksByte 13 (take result.len rest.now) }
     ensures reads { ReadsPassage phase rest.now result.len result.phase }
 {
-    let bytes = rest.as_bytes();
     match phase {
-        // The hyphens are left: they may be those of a `-->`.
-        Phase::Plain => if begins_with(b"<!--", bytes) {
-            Passage {
-                len: 2,
-                phase: Phase::Escaped,
-            }
-        } else {
-            Passage { len: 1, phase }
-        },
-        Phase::Escaped => if begins_with(b"-->", bytes) {
-            Passage {
-                len: 3,
-                phase: Phase::Plain,
-            }
-        } else if begins_with_name(b"<script", bytes) {
-            Passage {
-                len: 7,
-                phase: Phase::DoubleEscaped,
-            }
-        } else {
-            Passage { len: 1, phase }
-        },
-        Phase::DoubleEscaped => if begins_with(b"-->", bytes) {
-            Passage {
-                len: 3,
-                phase: Phase::Plain,
-            }
-        } else if begins_with_name(b"</script", bytes) {
-            Passage {
-                len: 8,
-                phase: Phase::Escaped,
-            }
-        } else {
-            Passage { len: 1, phase }
-        },
+        Phase::Plain => read_plain_mark(rest),
+        Phase::Escaped => read_escaped_mark(rest),
+        Phase::DoubleEscaped => read_double_mark(rest),
     }
 }
 
