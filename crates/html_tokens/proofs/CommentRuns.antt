@@ -100,7 +100,7 @@ unclosed_first b bytes utf8 h = input-first is_unclosed (λ c big. grind (arith,
 
 -- ---- a hyphen that ends nothing is of the comment
 
--- after `--!`, where no `>` follows
+-- after `--!`, if no `>` follows
 banged : (k : List ℕ) (b : ℕ) (bytes : List ℕ) → IsUtf8 (b ∷ bytes) → (b == 62) ≡ false
     → read (CommentEndBang k) 0 (input (b ∷ bytes)) ≡ read (CommentBody (k ++ 45 ∷ 45 ∷ 33 ∷ [])) 0 (input (b ∷ bytes))
 banged k b bytes utf8 h =
@@ -203,7 +203,7 @@ body_marks = record {
   joins = body_joins;
 }
 
--- ---- where a comment ends
+-- ---- the end of a comment
 
 body_nil : (k : List ℕ) → read (CommentBody k) 0 [] ≡ Comment k ∷ []
 unfolding read tokens_at_end
@@ -217,7 +217,7 @@ data_nil : read Data 0 [] ≡ []
 unfolding read tokens_at_end
 data_nil = refl
 
--- What is left of a text after its first characters, so many that no length is counted in the rest.
+-- The rest of a text after its first characters.
 abbrev Closes : List ℕ → List ℕ → ℕ → Type 0
 Closes k text n = read (CommentBody k) 0 (input text) ≡ Comment k ∷ read Data 0 (input (drop n text))
 
@@ -310,7 +310,7 @@ closed k (c ∷ d ∷ e ∷ f ∷ text) utf8 some =
     let both = hyphens c d (e ∷ f ∷ text) (some (omega arith)) in
     rw (both.0, both.1) (closed_four k e f text (rw (both.0, both.1) at utf8) (rw (both.0, both.1) at (some (omega arith))))
 
--- ---- where a comment begins
+-- ---- the beginning of a comment
 
 start_close : (k text : List ℕ) → read (CommentStart k) 0 (62 ∷ text) ≡ Comment k ∷ read Data 0 text
 unfolding read step look_again look
@@ -368,7 +368,7 @@ begun_dash k d text utf8 h =
       | inr other ↦ start_dash_other k f.char f.rest other w ∙ sym (dash_other k f.char f.rest other)
     ])
 
--- a comment that does not end where it begins
+-- a comment that does not end right at its beginning
 pub begun : (k text : List ℕ) → IsUtf8 text → abrupt_len text ≡ 0 → read (CommentStart k) 0 (input text) ≡ read (CommentBody k) 0 (input text)
 begun k [] utf8 h = rw input-nil (start_nil k)
 begun k (b ∷ []) utf8 h =

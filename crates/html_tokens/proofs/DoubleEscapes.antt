@@ -25,7 +25,7 @@ use Rattle.html_tokens.proofs.EndTags.{Fails, fails_at, fails_on, fails_here, is
 abbrev pub is_end : ℕ → Bool
 is_end c = is_space c || c == 47 || c == 62
 
--- A state that reads letters as text: it goes to the first state where they are `script`, else to the second.
+-- A state that reads letters as text: it goes to the first state if they are `script`, else to the second.
 pub record Letters (L : List ℕ → State) (goal back : State) : Type 0 where
   pub letter : (letters : List ℕ) (c : ℕ) (text : List ℕ) → is_letter c ≡ true → read (L letters) 0 (c ∷ text) ≡ Char (replace_null c) ∷ read (L (letters ++ c ∷ [])) 0 text
   pub ended : (letters : List ℕ) (c : ℕ) (text : List ℕ) → is_letter c ≡ false → is_end c ≡ true → read (L letters) 0 (c ∷ text) ≡ Char (replace_null c) ∷ read (double_escape_state goal back letters) 0 text
@@ -99,7 +99,7 @@ ends last = record {
   back_keeps = double_keeps last;
 }
 
--- ---- where the letters are no `script`
+-- ---- letters other than `script`
 
 plain_letter : (b : ℕ) → is_letter b ≡ true → ((b == 60) ≡ false) × ((b == 45) ≡ false)
 plain_letter b h = (grind (arith, nat_tests), grind (arith, nat_tests))
@@ -149,7 +149,7 @@ doubles_not L goal back l letters (b ∷ bytes) utf8 h = elim (cases_Bool (is_le
 pub no_double : (L : List ℕ → State) (goal back : State) → Letters L goal back → (bytes : List ℕ) → IsUtf8 bytes → begins_with_name script bytes ≡ false → read (L []) 0 (input bytes) ≡ read back 0 (input bytes)
 no_double L goal back l bytes utf8 h = doubles_not L goal back l [] bytes utf8 (fails_at script bytes h)
 
--- ---- where they are
+-- ---- the letters `script`
 
 pub record Ends (bytes : List ℕ) : Type 0 where
   pub char : ℕ

@@ -1,4 +1,4 @@
--- End tags in the content of an element: what is read where one stands, and where one only seems to.
+-- End tags in the content of an element, and texts that only seem to be one.
 use Rattle.std.proofs.Common.{◌≡◌, ◌≢◌, nat_lt, ℕ, suc, ◌<◌, Bool, true, false, not, ◌&&◌, ◌||◌, ◌==◌, List, [], ◌∷◌, ◌++◌, length, map, drop, refl, sym, ap, subst, ◌∙◌, append_assoc, append-nil, arith, inl, inr, IsUtf8}
 use Rattle.std.proofs.lemmas.Bool.{cases_Bool, and_parts, eqb-true, both_ways, not-true, and_from}
 use Rattle.std.proofs.lemmas.Bool.Decides.{nat_tests}
@@ -36,7 +36,7 @@ letter_shown b h =
 pub input-letter : (b : ℕ) (bytes : List ℕ) → is_letter b ≡ true → input (b ∷ bytes) ≡ b ∷ input bytes
 input-letter b bytes h = input-cons b bytes (letter_small b h) (letter_no_return b h)
 
--- ---- a character that stands for itself in each kind of content
+-- ---- a character that is read as itself in each kind of content
 
 pub raw_keeps : (k : RawTextKind) (last : List ℕ) (c : ℕ) (text : List ℕ) → (c == 38) ≡ false → (c == 60) ≡ false → (c == 45) ≡ false → read (Raw k last) 0 (c ∷ text) ≡ Char (replace_null c) ∷ read (Raw k last) 0 text
 unfolding read step look_again look
@@ -93,7 +93,7 @@ fails_on last letters b bytes h w e =
     let itself : (lower b == lower b) ≡ true = grind (arith, nat_tests) in
     (rw itself at no)
 
--- a character that is no letter, where the name is another
+-- a character that is no letter, if the name is another
 pub record Unended (c : ℕ) : Type 0 where
   pub unnamed : is_letter c ≡ false
   pub unspaced : is_space c ≡ false
@@ -140,7 +140,7 @@ pub no_letter : (c : ℕ) → is_unnamed c ≡ true → is_letter c ≡ false
 unfolding is_unnamed
 no_letter c h = not-true (is_letter c) h
 
--- What is read where the name of an end tag goes on with this text, which is text itself.
+-- The tokens of a text that goes on with the name of an end tag, and is text itself.
 abbrev IsText : RawTextKind → List ℕ → List ℕ → List ℕ → Type 0
 IsText k last letters bytes = read (RawEndName k last letters) 0 (input bytes) ≡ chars (60 ∷ 47 ∷ letters) ++ read (Raw k last) 0 (input bytes)
 

@@ -31,7 +31,7 @@ pub past_mark : (mark : ℕ) → mark < 128 → (rest : List ℕ) (at : ℕ) →
 past_mark mark small rest at utf8 lt begins =
     IsCharBoundary-after_ascii rest at utf8 lt (omega (arith, small, ap (λ (l : List ℕ). get_or l 0 0) (sym (drop_more rest at 0 lt) ∙ begins_with mark rest at lt begins)))
 
--- What is kept up to a place, where a mark stands or the text ends.
+-- The text that is kept up to a mark or to the end of the text.
 abbrev pub Kept : Reader → ℕ → (List ℕ → List ℕ) → List Token → List ℕ → ℕ → Type 0
 Kept F mark held all rest at = IsCharBoundary rest at × BeginsWithByte mark (drop at rest) × (all ≡ F (held (input (take at rest))) 0 (input (drop at rest)))
 

@@ -38,7 +38,7 @@ short_bytes : (name : List ℕ) → is_short name ≡ true → AreBytes name
 unfolding is_short
 short_bytes name e = bytes_passed name (and_parts (nat_le (length name) 15) (list_all (λ b. nat_lt b 256) name) e).1
 
--- two short names are the same where their numbers are
+-- two short names are equal if their numbers are
 same_number : (xs ys : List ℕ) → is_short xs ≡ true → is_short ys ≡ true → (pack xs == pack ys) ≡ bytes_eq xs ys
 same_number xs ys p q =
     same_from_decides (pack xs == pack ys) (bytes_eq xs ys)

@@ -85,7 +85,7 @@ doctype_read a b c d e f g text h k =
 
 -- ---- words at the front of a text and of its input stream
 
--- a character that is read as it stands
+-- a character that is read as itself
 abbrev is_firm : ℕ → Bool
 is_firm x = not (x == 10) && not (x == 13) && nat_lt x 128
 

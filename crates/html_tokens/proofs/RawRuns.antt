@@ -199,11 +199,11 @@ word_of content.Noembed = refl
 word_of content.Noframes = refl
 word_of content.Script = refl
 
--- the content ends where its end tag stands
+-- the content ends at its end tag
 pub content_closed : (c : Content) (bytes : List ℕ) → begins_end_tag c bytes ≡ true → read (inside c) 0 (input bytes) ≡ read Data 0 (input bytes)
 content_closed c bytes h = closed (raw_text_kind c) (element_name c) bytes (word_of c) h
 
--- and where the text does
+-- and at the end of the text
 pub content_over : (c : Content) (rest : List ℕ) (at : ℕ) → length rest ≤ at → read (inside c) 0 (input (drop at rest)) ≡ read Data 0 (input (drop at rest))
 content_over c rest at over = rw (drop_all at rest over, input-nil) (raw_nil (raw_text_kind c) (element_name c))
 

@@ -228,7 +228,7 @@ start_over : (last : List ℕ) → (read (EscapeStart last) 0 [] ≡ read (Raw S
 unfolding read tokens_at_end
 start_over last = (refl, refl)
 
--- after `<!-`, where no second hyphen follows
+-- after `<!-`, if no second hyphen follows
 one_hyphen : (last bytes : List ℕ) → IsUtf8 bytes → begins_with (45 ∷ []) bytes ≡ false → read (EscapeStartDash last) 0 (input bytes) ≡ read (Raw Script last) 0 (input bytes)
 one_hyphen last [] utf8 h = rw input-nil (start_over last).1
 one_hyphen last (b ∷ bytes) utf8 h =
@@ -236,7 +236,7 @@ one_hyphen last (b ∷ bytes) utf8 h =
     let f = first_not 45 b bytes (omega arith) refl utf8 other in
     rw f.is (reconsumed (EscapeStartDash last) (Raw Script last) [] f.char f.rest (look_start_dash last f.char f.rest (it_is_not 45 f.char f.passes)))
 
--- after `<!`, where no two hyphens follow
+-- after `<!`, if no two hyphens follow
 no_hyphens : (last bytes : List ℕ) → IsUtf8 bytes → begins_with (45 ∷ 45 ∷ []) bytes ≡ false → read (EscapeStart last) 0 (input bytes) ≡ read (Raw Script last) 0 (input bytes)
 no_hyphens last [] utf8 h = rw input-nil (start_over last).0
 no_hyphens last (b ∷ bytes) utf8 h = elim (cases_Bool (b == 45)) [

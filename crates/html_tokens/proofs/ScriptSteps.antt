@@ -112,7 +112,7 @@ two_parts p q r text n m cut first second =
     ∙ emits-more ends (map replace_null one) (map replace_null two) 0 back
     ∙ ap (λ (l : List ℕ). chars l ++ read ends 0 back) (sym (map-append replace_null one two) ∙ ap (map replace_null) (sym whole))
 
--- where the first part has no carriage return
+-- if the first part has no carriage return
 pub plain_parts : (p q r : Phase) (text : List ℕ) (n m : ℕ) → IsUtf8 text → IsCharBoundary text n → LacksByte 13 (take n text) → ReadsPassage p text n q → ReadsPassage q (drop n text) m r → ReadsPassage p text (n + m) r
 plain_parts p q r text n m utf8 cut lacks first second =
     two_parts p q r text n m (input-append_plain (take n text) (take m (drop n text)) (IsUtf8-take text n utf8 cut) lacks) first second
@@ -122,12 +122,12 @@ marked_front zero text h = tt
 marked_front (suc m) [] h = tt
 marked_front (suc m) (b ∷ text) h = h
 
--- where a mark stands between the two
+-- if a mark is between the two
 pub marked_parts : (p q r : Phase) (text : List ℕ) (n m : ℕ) → IsUtf8 text → IsCharBoundary text n → BeginsWithMark (drop n text) → ReadsPassage p text n q → ReadsPassage q (drop n text) m r → ReadsPassage p text (n + m) r
 marked_parts p q r text n m utf8 cut mark first second =
     two_parts p q r text n m (input-append (take n text) (take m (drop n text)) (IsUtf8-take text n utf8 cut) (marked_front m (drop n text) (mark_marked (drop n text) mark))) first second
 
--- ---- where a script ends
+-- ---- the end of a script
 
 double_nil : (last : List ℕ) → read (DoubleEscaped last) 0 [] ≡ read Data 0 []
 unfolding read tokens_at_end

@@ -262,7 +262,7 @@ moved_bound text at m s cut h = omega (arith, cut.0, bound_within (drop at text)
 pub moved_ends : (text : List ℕ) (at : ℕ) (m : Mode) (s : Step) → IsCharBoundary text at → IsStepTo (drop at text) m s → (at + s.span.end ≤ length text) × (at + s.at ≤ length text)
 moved_ends text at m s cut h = (omega (arith, cut.0, h.span.ends.0, length-drop at text), omega (arith, cut.0, h.at.0, length-drop at text))
 
--- in an element's content nothing is said of where a run begins
+-- in an element's content a run may begin anywhere
 pub begins_inside : (text : List ℕ) (content : Content) (p : Part) (start : ℕ) → RunBeginsOutsideMarkup text mode.Data p start → RunBeginsOutsideMarkup text (mode.Inside content) p start
 begins_inside text content (part.Run r) start h = tt
 begins_inside text content part.StartTag start h = tt
@@ -270,7 +270,7 @@ begins_inside text content part.EndTag start h = tt
 begins_inside text content (part.Comment from to) start h = tt
 begins_inside text content part.Doctype start h = tt
 
--- the same step from an earlier place, or in another mode, where the tokens are the same
+-- the same step from an earlier place, or in another mode, if the tokens are the same
 pub moves_from : (text : List ℕ) (early late : ℕ) (m n : Mode) (s : Option Step) → early ≤ late → tokens_in m (drop early text) ≡ tokens_in n (drop late text)
     → ((p : Part) (start : ℕ) → RunBeginsOutsideMarkup text n p start → RunBeginsOutsideMarkup text m p start) → ((start : ℕ) → SkipsNoToken text late n start → SkipsNoToken text early m start)
     → IsNextStepAt text late n s → IsNextStepAt text early m s

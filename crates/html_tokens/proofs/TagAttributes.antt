@@ -71,7 +71,7 @@ keeping_among t attributes a = elim (cases_Bool (has_name a.name attributes)) [
   | inr other ↦ rw other refl
 ]
 
--- up to a place where the next attribute begins or the tag ends, these attributes are read
+-- the attributes up to the next one or to the end of the tag
 pub attributes_more : (t : Tag) (attributes : List Attribute) (rest : List ℕ) (at : ℕ) (place : AttributePlace) → read (BeforeName t) 0 (input rest) ≡ read (BeforeName (with_attributes t attributes)) 0 (input (drop at rest))
     → ReadsAttributeAt (drop at rest) place
     → read (BeforeName t) 0 (input rest) ≡ read (BeforeName (with_attributes t (add_attribute attributes (attribute_at (drop at rest) place)))) 0 (input (drop (at + place.end) rest))

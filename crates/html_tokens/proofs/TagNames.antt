@@ -131,7 +131,7 @@ named_flag t b bytes (suc n) some utf8 =
     let f = input-first (λ c. true) (λ c big. refl) (λ h. refl) b (take n bytes) utf8 refl in
     rw f.is refl
 
--- where the name ends with which an attribute begins
+-- the end of the name of an attribute
 pub record Named (rest : List ℕ) (n : ℕ) : Type 0 where
   pub boundary : IsCharBoundary rest n
   pub reads : (t : Tag) → read (BeforeName t) 0 (input rest) ≡ read (AfterName t (read_name (take n rest))) 0 (input (drop n rest))

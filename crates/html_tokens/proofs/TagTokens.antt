@@ -26,7 +26,7 @@ some_token rest gives none = absurd (nothing (sym none ∙ gives.2))
     nothing : [] ≡ gives.0 ∷ gives.1 → ⊥
     nothing e = cc
 
--- what is read after the name of a tag that begins so many bytes further on
+-- the tokens after the name of a tag that begins at an offset
 pub after_name : (is_end : Bool) (rest inside after : List ℕ) (k len : ℕ) → inside ≡ drop k rest → after ≡ drop len inside → read Data 0 (input rest) ≡ read (TagName (new_tag is_end)) 0 (input (drop k rest))
     → ((tag : Tag) → read (TagName tag) 0 (input inside) ≡ read (BeforeName (extend_name tag (input (take len inside)))) 0 (input (drop len inside)))
     → read Data 0 (input rest) ≡ read (BeforeName (tag_in is_end len (drop k rest))) 0 (input after)

@@ -50,7 +50,7 @@ fn texts_have_the_tokens_that_html5lib_gives(rt: HostRuntime) -> Result<(), Fail
     Ok(())
 }
 
-// The tokens that a line gives: so many characters of the line before, and what comes after them.
+// The tokens of a line: it tells how many characters of the tokens before are kept, and what comes after them.
 fn tokens_in(alloc: Global, before: &str, line: &str) -> Result<String, Fail> {
     let (kept, more) = line.split_once('|').ok_or("a line without a bar")?;
     let kept = kept.parse::<usize>().ok().ok_or("a line without a number")?;

@@ -1,9 +1,6 @@
-use Rattle.std.proofs.Common.{◌≡◌, ℕ, Bool, List, [], ◌∷◌, false, true, ap, sym, subst, ◌∙◌, codes}
+use Rattle.std.proofs.Common.{◌≡◌, ℕ, Bool, List, [], ◌∷◌, false, true, ap, sym, ◌∙◌}
 use Rattle.html_syntax.specs.References.{begins_with}
-use Rattle.html_tokens.specs.Contents.{begins_with_name}
-use Rattle.html_tokens.specs.Scripts.{ends_script}
-use Rattle.html_tokens.specs.declared.script.Phase.{Phase}
-use Rattle.html_tokens.proofs.ScriptParts.{escapes, closes_escape, closes_double, doubles_escape, leaves_double, plain_one, escaped_one, double_one}
+use Rattle.html_tokens.proofs.ScriptParts.{escapes, plain_one}
 use Rattle.html_tokens.proofs.script.read_plain_mark.Goals as goal
 
 -- what a test said of the bytes it says of the text
