@@ -35,7 +35,7 @@ part_some text start end (part.Comment from to) utf8 some begins ends holds = λ
 part_some text start end part.Doctype utf8 some begins ends holds = λ e. absurd cc
 
 pub span_some : (text : List ℕ) (span : Span) → IsUtf8 text → IsSpan text span → span_tokens text span ≢ []
-span_some text span utf8 h = part_some text span.start span.end span.part utf8 h.some h.begins h.ends h.holds
+span_some text span utf8 h = part_some text span.start span.end span.part utf8 h.nonempty h.begins h.ends h.holds
 
 pub tokens_some : (l s more : List Token) → l ≡ s ++ more → s ≢ [] → l ≢ []
 tokens_some l [] more e some = absurd (some refl)

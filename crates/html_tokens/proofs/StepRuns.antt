@@ -51,7 +51,7 @@ tag_found rest p k len n m t utf8 cut name_cut tag_cut some gives holds ends beg
     let more : List Token = tokens_in m (drop n (drop len (drop k rest))) in
     record {
       reads = first_of all t more reads ∙ ap (λ (l : List Token). l ++ more) (sym gives) ∙ ap (λ (l : List ℕ). part_tokens rest 0 (k + len + n) p ++ tokens_in m l) (tag_rest rest k len n);
-      span = record { some = omega (arith, some); begins = IsCharBoundary-start rest utf8; ends = past; holds = holds (t, more, reads) };
+      span = record { nonempty = omega (arith, some); begins = IsCharBoundary-start rest utf8; ends = past; holds = holds (t, more, reads) };
       at = past;
       start = refl;
       ends_at_place = refl;
@@ -90,7 +90,7 @@ comment_found rest k len end utf8 cut some len_cut end_cut ordered reads =
           reads
           ∙ ap (λ (n : ℕ). Comment (map replace_null (input (take n (drop k rest)))) ∷ read Data 0 (input (drop end (drop k rest)))) (sym inner)
           ∙ ap (λ (l : List ℕ). Comment (map replace_null (input (slice_between k (k + len) rest))) ∷ read Data 0 (input l)) (drop-drop end k rest);
-      span = record { some = omega (arith, some); begins = IsCharBoundary-start rest utf8; ends = past; holds = (omega arith, cut, IsCharBoundary-from_rest rest k len cut.0 len_cut) };
+      span = record { nonempty = omega (arith, some); begins = IsCharBoundary-start rest utf8; ends = past; holds = (omega arith, cut, IsCharBoundary-from_rest rest k len cut.0 len_cut) };
       at = past;
       start = refl;
       ends_at_place = refl;
@@ -106,7 +106,7 @@ doctype_found rest end utf8 cut end_cut reads =
     let past = IsCharBoundary-from_rest rest 9 end cut.0 end_cut in
     record {
       reads = reads ∙ ap (λ (l : List ℕ). Doctype ∷ read Data 0 (input l)) (drop-drop end 9 rest);
-      span = record { some = omega arith; begins = IsCharBoundary-start rest utf8; ends = past; holds = tt };
+      span = record { nonempty = omega arith; begins = IsCharBoundary-start rest utf8; ends = past; holds = tt };
       at = past;
       start = refl;
       ends_at_place = refl;
@@ -124,7 +124,7 @@ run_found r m rest end utf8 some cut reads ends begins =
     let whole : end - 0 ≡ end = omega arith in
     record {
       reads = reads ∙ ap (λ (n : ℕ). chars (read_as r (input (take n rest))) ++ read Data 0 (input (drop end rest))) (sym whole);
-      span = record { some = some; begins = IsCharBoundary-start rest utf8; ends = cut; holds = tt };
+      span = record { nonempty = some; begins = IsCharBoundary-start rest utf8; ends = cut; holds = tt };
       at = cut;
       start = refl;
       ends_at_place = refl;
@@ -219,7 +219,7 @@ moved_span by s = record { start = by + s.start; end = by + s.end; part = shift_
 
 span_moved : (text : List ℕ) (at : ℕ) (s : Span) → IsCharBoundary text at → IsSpan (drop at text) s → IsSpan text (moved_span at s)
 span_moved text at s cut h = record {
-  some = omega (arith, h.some);
+  nonempty = omega (arith, h.nonempty);
   begins = IsCharBoundary-from_rest text at s.start cut.0 h.begins;
   ends = IsCharBoundary-from_rest text at s.end cut.0 h.ends;
   holds = holds_moved text at s.start s.part cut.0 h.holds;
@@ -330,7 +330,7 @@ runs_are_separate text place m first second r s a b first_run second_run = elim 
   | inl lt ↦ lt
   | inr le ↦
       let same : first.span.end ≡ second.span.start = omega (arith, le, a.ends_at_place, b.advances) in
-      let within : first.span.end < length text = omega (arith, same, b.span.some, b.span.ends.0) in
+      let within : first.span.end < length text = omega (arith, same, b.span.nonempty, b.span.ends.0) in
       let ends : RunEndsAtMarkup text (part.Run r) first.span.end = subst (λ (p : Part). RunEndsAtMarkup text p first.span.end) first_run a.run_ends_at_markup in
       let leaves : RunLeavesData (part.Run r) first.mode = subst (λ (p : Part). RunLeavesData p first.mode) first_run a.run_leaves_data in
       let begins : RunBeginsOutsideMarkup text first.mode (part.Run s) second.span.start = subst (λ (p : Part). RunBeginsOutsideMarkup text first.mode p second.span.start) second_run b.run_begins_outside_markup in

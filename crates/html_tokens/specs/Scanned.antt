@@ -96,7 +96,7 @@ HoldsPart text start part.Doctype = Unit {0}
 
 -- the span is a span of the text
 pub record IsSpan (text : List ℕ) (span : Span) : Type 0 where
-  pub some : span.start < span.end
+  pub nonempty : span.start < span.end
   pub begins : IsCharBoundary text span.start
   pub ends : IsCharBoundary text span.end
   pub holds : HoldsPart text span.start span.part

@@ -62,7 +62,7 @@ pub record IsStepTo (text : List ℕ) (mode : Mode) (step : Step) : Type 0 where
   pub run_begins_outside_markup : RunBeginsOutsideMarkup text mode step.span.part step.span.start
   pub run_leaves_data : RunLeavesData step.span.part step.mode
 
--- there is no step if and only if no token remains
+-- no token remains, or the step to the first token
 abbrev pub IsNextStep : List ℕ → Mode → Option Step → Type 0
 IsNextStep text mode None = tokens_in mode text ≡ []
 IsNextStep text mode (Some step) = IsStepTo text mode step
@@ -87,6 +87,7 @@ pub record IsStepAt (text : List ℕ) (place : ℕ) (mode : Mode) (step : Step) 
   pub run_begins_outside_markup : RunBeginsOutsideMarkup text mode step.span.part step.span.start
   pub run_leaves_data : RunLeavesData step.span.part step.mode
 
+-- no token remains, or the step to the first token from the offset on
 abbrev pub IsNextStepAt : List ℕ → ℕ → Mode → Option Step → Type 0
 IsNextStepAt text place mode None = tokens_in mode (drop place text) ≡ []
 IsNextStepAt text place mode (Some step) = IsStepAt text place mode step
