@@ -36,13 +36,26 @@ fn assert_kept(rt: &impl Abort, alloc: Global, names: &[String]) -> Result<(), F
     Ok(())
 }
 
-fn push_numbered(
+fn push_rising(
     alloc: Global,
     names: &mut Vec<String>,
     word: &str,
-    numbers: impl Iterator<Item = u32>,
+    from: u32,
+    to: u32,
 ) -> Result<(), Memory> {
-    for n in numbers {
+    for n in from..to {
+        names.push(format!(in alloc; "{word}{n}")?)?;
+    }
+    Ok(())
+}
+
+fn push_falling(
+    alloc: Global,
+    names: &mut Vec<String>,
+    word: &str,
+    count: u32,
+) -> Result<(), Memory> {
+    for n in (0..count).rev() {
         names.push(format!(in alloc; "{word}{n}")?)?;
     }
     Ok(())
@@ -59,7 +72,7 @@ fn push_words(alloc: Global, names: &mut Vec<String>, words: &[&str]) -> Result<
 fn names_of_each_length_are_kept_once(rt: HostRuntime) -> Result<(), Fail> {
     let alloc = rt.alloc();
     let mut names = Vec::new(alloc);
-    push_numbered(alloc, &mut names, "filler", 0..17)?;
+    push_rising(alloc, &mut names, "filler", 0, 17)?;
     // one byte, a prefix of another, fourteen bytes, fifteen, sixteen and more, and not ASCII
     let words = [
         "a",
@@ -83,9 +96,9 @@ fn names_of_each_length_are_kept_once(rt: HostRuntime) -> Result<(), Fail> {
 fn names_in_each_order_are_kept_once(rt: HostRuntime) -> Result<(), Fail> {
     let alloc = rt.alloc();
     let mut names = Vec::new(alloc);
-    push_numbered(alloc, &mut names, "up", 10..50)?;
+    push_rising(alloc, &mut names, "up", 10, 50)?;
     // only the first is greater than those before it, since a shorter name has a smaller number
-    push_numbered(alloc, &mut names, "down", (0..120).rev())?;
+    push_falling(alloc, &mut names, "down", 120)?;
     // between those that came, and the last above them all
     let words = ["up1", "up100", "up1a", "up5", "v", "data-of-fifteen"];
     push_words(alloc, &mut names, &words)?;
