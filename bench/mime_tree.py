@@ -4,7 +4,7 @@
 Build the program first, by `tools/build bench`. Then run this file, from anywhere, with the number of
 times that each is measured (5 by default). First come the malformed messages and 3,000 random ones: the program must
 print what plain_mime_tree.py prints, which reads the definition as plainly as it can. Then come the times: each figure is
-the least of those times in milliseconds, of the call alone. Python's parser reads bytes that are in memory, as the program
+the least of the measured times in milliseconds, of the call alone. Python's parser reads bytes that are in memory, as the program
 does. The program's figure on ten attachments is to be a twentieth of the parser's at most.
 """
 import base64
@@ -136,6 +136,9 @@ def hostile():
     yield "LF alone", start + b"\n" * SIZE
     yield "32 nested boundaries", head + b"\n" + b"--y\n" * (SIZE // 4)
     yield "32 nested boundaries, alike", alike + b"\n" + f"--{long}\n".encode() * (SIZE // 28)
+    deep = "".join(f"Content-Type: multipart/mixed; boundary=b{i}\n\n--b{i}\n" for i in range(33)).encode() + b"\n"
+    for name, line in (("LF", b"\n"), ("CR LF", b"\r\n"), ("-- and LF", b"--\n"), ("ten characters", b"123456789\n")):
+        yield f"33 nested, lines of {name}", deep + line * (SIZE // len(line))
     yield "1,000,000 parameters", b"Content-Type: text/plain" + b"; a=\"b\"" * 1_000_000 + b"\n\nx"
     yield "one open quoted string", b"Content-Type: text/plain; a=\"" + b"\\\";" * (SIZE // 3) + b"\n\nx"
     yield "fields without a name", b"a:\n" * (SIZE // 3)

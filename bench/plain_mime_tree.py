@@ -1,8 +1,10 @@
 #!/usr/bin/env python3
 """The tree of a message by its definition, as plainly as it can be written: slow, and meant to be read.
 
-It is a second reading of the rules that crates/mime_tree proves its code against. bench/mime_tree.py compares the two on
-malformed messages. `list_parts` gives what `bench tree` prints.
+It is a second reading of the rules that crates/mime_tree proves its code against. bench/mime_tree.py compares the two on malformed
+messages. `list_parts` returns the text that `bench tree` prints.
+
+It leaves out: encoded words in names, Content-ID, Content-Location, and what want of memory does.
 """
 import re
 from collections import namedtuple

@@ -100,13 +100,13 @@ pub header_lines_none : header_lines [] ≡ []
 header_lines_none = refl
 
 -- the line at a place, and what follows it, where it isn't empty
-pub record Goes (bytes : List ℕ) (at n : ℕ) (text : List ℕ) : Type 0 where
+pub record HasLineAt (bytes : List ℕ) (at n : ℕ) (text : List ℕ) : Type 0 where
   pub within : at + n ≤ length bytes
   pub lines : header_lines (drop at bytes) ≡ text ∷ header_lines (drop (at + n) bytes)
   pub body : body_of (drop at bytes) ≡ n + body_of (drop (at + n) bytes)
 
 -- the line at a place, where it is empty
-pub record Ends (bytes : List ℕ) (at n : ℕ) : Type 0 where
+pub record HasEmptyLineAt (bytes : List ℕ) (at n : ℕ) : Type 0 where
   pub within : at + n ≤ length bytes
   pub lines : header_lines (drop at bytes) ≡ []
   pub body : body_of (drop at bytes) ≡ n
@@ -114,8 +114,8 @@ pub record Ends (bytes : List ℕ) (at n : ℕ) : Type 0 where
 rest_some : (bytes : List ℕ) (at : ℕ) → at < length bytes → 0 < length (drop at bytes)
 rest_some bytes at h = omega (arith, length-drop {A = ℕ})
 
-pub goes_on : (bytes : List ℕ) (at n : ℕ) (text : List ℕ) → at < length bytes → text ≡ first_text (take (length bytes - at) (drop at bytes)) → n ≡ first_size (take (length bytes - at) (drop at bytes)) → false ≡ eqb (length text) 0 → Goes bytes at n text
-goes_on bytes at n text h t s e =
+pub line_at : (bytes : List ℕ) (at n : ℕ) (text : List ℕ) → at < length bytes → text ≡ first_text (take (length bytes - at) (drop at bytes)) → n ≡ first_size (take (length bytes - at) (drop at bytes)) → false ≡ eqb (length text) 0 → HasLineAt bytes at n text
+line_at bytes at n text h t s e =
     let rest = drop at bytes in
     let some : 0 < length rest = rest_some bytes at h in
     let text_is : text ≡ first_text rest = t ∙ ap first_text (take_rest bytes at) in
@@ -129,8 +129,8 @@ goes_on bytes at n text h t s e =
       body = body_step rest some ∙ rw (full, after, size_is) refl;
     }
 
-pub ends : (bytes : List ℕ) (at n : ℕ) (text : List ℕ) → at < length bytes → text ≡ first_text (take (length bytes - at) (drop at bytes)) → n ≡ first_size (take (length bytes - at) (drop at bytes)) → true ≡ eqb (length text) 0 → Ends bytes at n
-ends bytes at n text h t s e =
+pub empty_line_at : (bytes : List ℕ) (at n : ℕ) (text : List ℕ) → at < length bytes → text ≡ first_text (take (length bytes - at) (drop at bytes)) → n ≡ first_size (take (length bytes - at) (drop at bytes)) → true ≡ eqb (length text) 0 → HasEmptyLineAt bytes at n
+empty_line_at bytes at n text h t s e =
     let rest = drop at bytes in
     let some : 0 < length rest = rest_some bytes at h in
     let text_is : text ≡ first_text rest = t ∙ ap first_text (take_rest bytes at) in

@@ -1,5 +1,5 @@
 -- The items of a value, an item at a time.
-use Rattle.std.proofs.Common.{◌≡◌, ℕ, zero, suc, ◌+◌, ◌-◌, ◌<◌, ◌≤◌, inl, inr, ◌⊎◌, Bool, true, false, ◌&&◌, cond, eqb, List, [], ◌∷◌, ◌++◌, length, take, drop, Option, Some, None, refl, sym, ap, ◌∙◌, subst, arith, append_assoc, length-append, length-drop}
+use Rattle.std.proofs.Common.{◌≡◌, ℕ, zero, suc, ◌+◌, ◌-◌, ◌<◌, ◌≤◌, inl, inr, ◌⊎◌, Bool, true, false, ◌&&◌, cond, eqb, List, [], ◌∷◌, ◌++◌, length, take, drop, Option, Some, None, refl, sym, ap, ◌∙◌, subst, arith, append_assoc, length-drop}
 use Rattle.std.specs.Prelude.{◌==◌, is_some, codes, nat_eq}
 use Rattle.std.specs.List.{list_any, prefix_len, position_or_len, starts_with, before_first, after_first}
 use Rattle.std.proofs.lemmas.Bool.{cases_Bool, cases_lt, eqb-true, eqb-false, ne_eqb}
@@ -7,7 +7,7 @@ use Rattle.std.proofs.lemmas.List.{drop_all, drop-drop, append-nil, nil_from_len
 use Rattle.transfer_codings.specs.declared.coding.Coding.{Coding}
 use Rattle.transfer_codings.specs.declared.charset.Charset.{Charset}
 use Rattle.header_words.specs.Fields.{is_blank}
-use Rattle.header_words.specs.EncodedWords.{EncodedWord, Item, is_question, text_len, ends_word, word_with, word_named, word_at, without_language, coding_of_letter, item_at, rest_of_word, items_from, items_of, leads_to_word, item_text, joined, with_words_decoded, without_gap, word_text}
+use Rattle.header_words.specs.EncodedWords.{EncodedWord, is_question, text_len, ends_word, word_with, word_named, word_at, without_language, coding_of_letter, item_at, rest_of_word, items_from, items_of, leads_to_word, joined, with_words_decoded, without_gap, word_text}
 use Rattle.header_words.specs.EncodedWords.Item.{Word, Byte}
 use Rattle.transfer_codings.specs.Charsets.{charset_named}
 

@@ -11,8 +11,8 @@ use Rattle.std.proofs.lemmas.List.Elements.{filter-append}
 use Rattle.mail_values.proofs.Prefixes.{take_further}
 use Rattle.header_words.specs.Lines.{is_newline, first_text, first_size, header_lines, body_of}
 use Rattle.header_words.specs.Fields.{FieldValue, Header, name_of, value_of, field_of, fields_of, own_lines, begins_field, is_continuation, header_of}
-use Rattle.header_words.specs.Places.{field_of_lines, raw_field, field_between, fields_at, Rise, starts_with, header_at}
-use Rattle.header_words.proofs.FirstLine.{lines_step, goes_on}
+use Rattle.header_words.specs.Places.{field_of_lines, raw_field, field_between, fields_at, IsRising, with_start, header_at}
+use Rattle.header_words.proofs.FirstLine.{lines_step, line_at}
 use Rattle.header_words.proofs.WholeLines.{IsWhole, drop_whole, lines_append, one_line, with_lines, extended, extended_none, extended_twice, extended_push, fields_with}
 
 abbrev field_with : List ℕ → List (List ℕ) → FieldValue
@@ -75,7 +75,7 @@ whole_after bytes at n h size lt =
           get_or-take (at + n) bytes i 0 (omega arith) ∙ ap (λ k. get_or bytes k 0) place ∙ sym (get_or-drop at bytes (position_or_len is_newline rest) 0) ∙ newline;
     }
 
-rise_push : (starts : List ℕ) (at end : ℕ) → at < end → Rise starts at → Rise (starts ++ at ∷ []) end
+rise_push : (starts : List ℕ) (at end : ℕ) → at < end → IsRising starts at → IsRising (starts ++ at ∷ []) end
 rise_push starts at end h rise = record {
   next = λ i k.
       let here : get_or (starts ++ at ∷ []) i 0 ≡ get_or starts i 0 = get_or_append_left starts (at ∷ []) 0 i (omega (arith, length-append {A = ℕ})) in
@@ -103,7 +103,7 @@ rise_push starts at end h rise = record {
       ];
 }
 
-rise_on : (starts : List ℕ) (at end : ℕ) → at ≤ end → Rise starts at → Rise starts end
+rise_on : (starts : List ℕ) (at end : ℕ) → at ≤ end → IsRising starts at → IsRising starts end
 rise_on starts at end h rise = record { next = rise.next; within = λ i k. let q = rise.within i k in omega arith }
 
 -- ---- one line more
@@ -131,7 +131,7 @@ with_line fs line more none =
 pub record Scanned (bytes : List ℕ) (at : ℕ) (starts : List ℕ) : Type 0 where
   pub within : at ≤ length bytes
   pub whole : at < length bytes → IsWhole (take at bytes)
-  pub rise : Rise starts at
+  pub rise : IsRising starts at
   pub fields : fields_with (fields_at bytes starts at) (header_lines (drop at bytes)) ≡ fields_of (header_lines bytes)
   pub body : at + body_of (drop at bytes) ≡ body_of bytes
 
@@ -141,13 +141,13 @@ at_field bytes starts at n line h text size =
     let size_is : at + n - at ≡ n = omega arith in
     fields_push bytes starts at (at + n) ∙ ap (λ k. fields_at bytes starts at ++ raw_field (take k (drop at bytes)) ∷ []) size_is ∙ ap (λ l. fields_at bytes starts at ++ field_of_lines l ∷ []) one
 
--- the scan goes on over a line
-pub scanned_on : (bytes starts after : List ℕ) (at n : ℕ) (line : List ℕ) → Scanned bytes at starts → at < length bytes → line ≡ first_text (take (length bytes - at) (drop at bytes)) → n ≡ first_size (take (length bytes - at) (drop at bytes)) → false ≡ eqb (length line) 0 → after ≡ starts_with starts line at → Scanned bytes (at + n) after
+-- the scan after one more line
+pub scanned_on : (bytes starts after : List ℕ) (at n : ℕ) (line : List ℕ) → Scanned bytes at starts → at < length bytes → line ≡ first_text (take (length bytes - at) (drop at bytes)) → n ≡ first_size (take (length bytes - at) (drop at bytes)) → false ≡ eqb (length line) 0 → after ≡ with_start starts line at → Scanned bytes (at + n) after
 scanned_on bytes starts after at n line before h t s filled is =
     let text : line ≡ first_text (drop at bytes) = t ∙ ap first_text (take_rest bytes at) in
     let size : n ≡ first_size (drop at bytes) = s ∙ ap first_size (take_rest bytes at) in
     let least : 1 ≤ n = omega (arith, length-drop {A = ℕ}) in
-    let goes = goes_on bytes at n line h t s filled in
+    let goes = line_at bytes at n line h t s filled in
     let one : lines (take n (drop at bytes)) ≡ line ∷ [] = ap (λ k. lines (take k (drop at bytes))) size ∙ one_line (drop at bytes) (omega (arith, length-drop {A = ℕ})) ∙ ap (λ l. l ∷ []) (sym text) in
     let old : fields_with (fields_at bytes starts at) (line ∷ header_lines (drop (at + n) bytes)) ≡ fields_of (header_lines bytes) = ap (fields_with (fields_at bytes starts at)) (sym goes.lines) ∙ before.fields in
     let body : at + n + body_of (drop (at + n) bytes) ≡ body_of bytes = omega (arith, goes.body, before.body) in
@@ -158,7 +158,7 @@ scanned_on bytes starts after at n line before h t s filled is =
           record {
             within = goes.within;
             whole = whole_after bytes at n h size;
-            rise = subst (λ (l : List ℕ). Rise l (at + n)) (sym now) (rise_push starts at (at + n) (omega arith) before.rise);
+            rise = subst (λ (l : List ℕ). IsRising l (at + n)) (sym now) (rise_push starts at (at + n) (omega arith) before.rise);
             fields = ap (λ fs. fields_with fs (header_lines (drop (at + n) bytes))) fields ∙ with_field (fields_at bytes starts at) line (header_lines (drop (at + n) bytes)) begins ∙ old;
             body = body;
           }
@@ -168,7 +168,7 @@ scanned_on bytes starts after at n line before h t s filled is =
           record {
             within = goes.within;
             whole = whole_after bytes at n h size;
-            rise = subst (λ (l : List ℕ). Rise l (at + n)) (sym now) (rise_on starts at (at + n) (omega arith) before.rise);
+            rise = subst (λ (l : List ℕ). IsRising l (at + n)) (sym now) (rise_on starts at (at + n) (omega arith) before.rise);
             fields = ap (λ fs. fields_with fs (header_lines (drop (at + n) bytes))) fields ∙ with_line (fields_at bytes starts at) line (header_lines (drop (at + n) bytes)) none ∙ old;
             body = body;
           }

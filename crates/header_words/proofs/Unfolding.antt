@@ -19,9 +19,9 @@ drop_none : (n : ℕ) → let none : List ℕ = [] in drop n none ≡ none
 drop_none n = let none : List ℕ = [] in drop_all n none (omega arith)
 
 -- the first line of a field
-pub started : (raw value : List ℕ) (n : ℕ) → value ≡ value_of (first_text raw) → n ≡ first_size raw → value ++ added (lines (take (length raw - n) (drop n raw))) ≡ unfolded (raw_field raw).lines
-started [] value n v s = ap (λ l. l ++ added (lines (take (0 - n) (drop n [])))) v ∙ ap (λ r. added (lines r)) (take_rest [] n ∙ drop_none n)
-started (x ∷ xs) value n v s =
+pub unfold_first : (raw value : List ℕ) (n : ℕ) → value ≡ value_of (first_text raw) → n ≡ first_size raw → value ++ added (lines (take (length raw - n) (drop n raw))) ≡ unfolded (raw_field raw).lines
+unfold_first [] value n v s = ap (λ l. l ++ added (lines (take (0 - n) (drop n [])))) v ∙ ap (λ r. added (lines r)) (take_rest [] n ∙ drop_none n)
+unfold_first (x ∷ xs) value n v s =
     let rest : take (length (x ∷ xs) - n) (drop n (x ∷ xs)) ≡ drop (first_size (x ∷ xs)) (x ∷ xs) = take_rest (x ∷ xs) n ∙ ap (λ k. drop k (x ∷ xs)) s in
     ap (λ l. l ++ added (lines (take (length (x ∷ xs) - n) (drop n (x ∷ xs))))) v ∙ ap (λ r. value_of (first_text (x ∷ xs)) ++ added (lines r)) rest
     ∙ sym (ap (λ ls. unfolded (field_of_lines ls).lines) (lines_step (x ∷ xs) (omega arith)))
@@ -34,8 +34,8 @@ added_on line value more =
     ]
 
 -- a line more
-pub going : (rest value longer total : List ℕ) (n : ℕ) → false ≡ eqb (length rest) 0 → value ++ added (lines rest) ≡ total → longer ≡ unfolded_with value (first_text rest) → n ≡ first_size rest → longer ++ added (lines (take (length rest - n) (drop n rest))) ≡ total
-going rest value longer total n filled before l s =
+pub unfold_next : (rest value longer total : List ℕ) (n : ℕ) → false ≡ eqb (length rest) 0 → value ++ added (lines rest) ≡ total → longer ≡ unfolded_with value (first_text rest) → n ≡ first_size rest → longer ++ added (lines (take (length rest - n) (drop n rest))) ≡ total
+unfold_next rest value longer total n filled before l s =
     let nonzero : length rest ≡ 0 → ⊥ = eqb-false (length rest) 0 (sym filled) in
     let some : 0 < length rest = omega arith in
     let after : take (length rest - n) (drop n rest) ≡ drop (first_size rest) rest = take_rest rest n ∙ ap (λ k. drop k rest) s in

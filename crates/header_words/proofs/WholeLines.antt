@@ -1,22 +1,21 @@
 -- The fields of whole lines, and of one line more.
 use Rattle.std.proofs.Common.{◌≡◌, ℕ, zero, suc, ◌+◌, ◌-◌, ◌<◌, ◌≤◌, inl, inr, Bool, true, false, cond, eqb, List, [], ◌∷◌, ◌++◌, length, get_or, take, drop, refl, sym, ap, ◌∙◌, subst, arith, append_assoc, length-append, length-drop}
-use Rattle.std.specs.Prelude.{filter, not, position, find, min, Some, None}
+use Rattle.std.specs.Prelude.{filter, not, position, find, Some, None}
 use Rattle.std.specs.List.{position_or_len, slice_get}
 use Rattle.std.specs.Str.{str_eq_ignore_ascii_case, str_to_ascii_lowercase}
 use Rattle.std.specs.Prelude.{slice_index, nat_lt, ◌==◌}
 use Rattle.std.specs.Char.{to_ascii_lowercase}
-use Rattle.std.proofs.Math.Seq.{take-append_seam}
 use Rattle.std.proofs.lemmas.Slice.Eq.{bytes_eq-Decides}
 use Rattle.std.proofs.Math.ListN.{get_or-eq_default}
 use Rattle.std.specs.Str.Lines.{lines, strip_carriage_return}
 use Rattle.std.proofs.lemmas.Bool.{cases_lt, cases_Bool, ne_eqb, eqb-false, eq-eqb, lt-ltb}
-use Rattle.std.proofs.lemmas.List.{append-nil, length-take-le, get_or-drop, drop-append-le, get_or_default, length-map, take-append-le, take-append-drop, drop_all, take_all}
+use Rattle.std.proofs.lemmas.List.{append-nil, length-take-le, get_or-drop, drop-append-le, get_or_default, take-append-le, take-append-drop, drop_all, take_all}
 use Rattle.std.proofs.lemmas.List.Elements.{filter-append}
 use Rattle.std.proofs.lemmas.List.Folds.{prefix_len-append}
 use Rattle.std.proofs.lemmas.List.Sums.{prefix_len-le-length}
 use Rattle.header_words.specs.Lines.{is_newline, first_text, first_size}
 use Rattle.header_words.specs.Fields.{FieldValue, fields_of, own_lines, is_continuation, is_colon, name_of, has_name}
-use Rattle.header_words.specs.Places.{field_of_lines, raw_field, field_between, fields_at, Rise, is_alike}
+use Rattle.header_words.specs.Places.{field_of_lines, raw_field, field_between, fields_at, IsRising, is_alike}
 use Rattle.header_words.proofs.FirstLine.{lines_step, first_text_found, first_size_last}
 
 abbrev record_of : List ℕ → List (List ℕ) → FieldValue
@@ -43,7 +42,7 @@ newline_found (x ∷ y ∷ ys) whole some =
 pub drop_whole : (k : ℕ) (xs : List ℕ) → IsWhole xs → IsWhole (drop k xs)
 drop_whole k xs whole = record { ends = λ i e. get_or-drop k xs i 0 ∙ whole.ends (k + i) (omega (arith, length-drop {A = ℕ})) }
 
--- where a newline stands in the front, the first line is the front's
+-- if the front has a newline, the first line is that of the front
 newline_append : (xs ys : List ℕ) → position_or_len is_newline xs < length xs → position_or_len is_newline (xs ++ ys) ≡ position_or_len is_newline xs
 newline_append xs ys h =
     let apart : eqb (position_or_len is_newline xs) (length xs) ≡ false = ne_eqb (position_or_len is_newline xs) (length xs) (λ e. absurd (omega arith)) in
@@ -228,7 +227,7 @@ pub record RisesAt (starts : List ℕ) (end i : ℕ) : Type 0 where
   pub below : get_or starts i 0 < get_or starts (i + 1) end
   pub within : get_or starts (i + 1) end ≤ end
 
-pub rises_at : (starts : List ℕ) (end i : ℕ) → Rise starts end → i < length starts → RisesAt starts end i
+pub rises_at : (starts : List ℕ) (end i : ℕ) → IsRising starts end → i < length starts → RisesAt starts end i
 rises_at starts end i rise h =
     elim (cases_lt (i + 1) (length starts)) [
       | inl lt ↦

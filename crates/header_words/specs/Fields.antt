@@ -1,5 +1,5 @@
--- The fields of a header (RFC 5322 §2.2 and §3.6.8): a name, a colon and a value, which lines that begin with a space or a
--- TAB go on with.
+-- The fields of a header (RFC 5322 §2.2 and §3.6.8): a name, a colon and a value, which lines that begin with a space or a TAB
+-- continue.
 use Rattle.std.specs.Prelude.{ℕ, ◌+◌, Bool, not, ◌&&◌, ◌||◌, List, [], ◌∷◌, length, take, drop, nat_lt, nat_le, ◌==◌, if◌then◌else◌, Option, filter, find, slice_index, take_while}
 use Rattle.std.specs.List.{position_or_len, list_all}
 use Rattle.std.specs.Str.{str_eq_ignore_ascii_case}
@@ -10,7 +10,7 @@ pub record FieldValue : Type 0 where
   pub name : List ℕ
   pub lines : List (List ℕ)
 
--- a header: its fields in order, and where the body begins
+-- a header: its fields in order, and the place of the body
 pub record Header : Type 0 where
   pub fields : List FieldValue
   pub body : ℕ
@@ -18,18 +18,18 @@ pub record Header : Type 0 where
 abbrev pub is_blank : ℕ → Bool
 is_blank b = (b == 32) || (b == 9)
 
--- the bytes of a name: 0x21 to 0x7E, and a colon ends it
+-- the bytes of a name: 0x21 to 0x7E; a colon ends it
 abbrev pub is_name_byte : ℕ → Bool
 is_name_byte b = nat_le 33 b && nat_le b 126
 
 abbrev pub is_colon : ℕ → Bool
 is_colon b = b == 58
 
--- a line that goes on with the field before it
+-- a line that continues the field before it
 abbrev pub is_continuation : List ℕ → Bool
 is_continuation line = nat_lt 0 (length line) && is_blank (slice_index line 0)
 
--- what stands before a line's first colon, and after it
+-- the bytes before a line's first colon, and after it
 abbrev pub name_of : List ℕ → List ℕ
 name_of line = take (position_or_len is_colon line) line
 
@@ -40,7 +40,7 @@ value_of line = drop (position_or_len is_colon line + 1) line
 abbrev pub begins_field : List ℕ → Bool
 begins_field line = nat_lt (position_or_len is_colon line) (length line) && (nat_lt 0 (position_or_len is_colon line) && list_all is_name_byte (name_of line))
 
--- the field that a line begins, where these lines stand between it and the next field
+-- the field that a line begins, with the lines between it and the next field
 abbrev pub field_of : List ℕ → List (List ℕ) → FieldValue
 field_of line more = record { name = name_of line; lines = value_of line ∷ filter is_continuation more }
 
@@ -48,8 +48,7 @@ field_of line more = record { name = name_of line; lines = value_of line ∷ fil
 abbrev pub own_lines : List (List ℕ) → List (List ℕ)
 own_lines more = take_while (λ line. not (begins_field line)) more
 
--- the fields of some lines: each line that begins a field gives it; a line that neither begins a field nor goes on with one
--- is passed over
+-- the fields of some lines; a line that neither begins a field nor continues one is skipped
 abbrev pub fields_of : List (List ℕ) → List FieldValue
 fields_of [] = []
 fields_of (line ∷ more) = if begins_field line then field_of line (own_lines more) ∷ fields_of more else fields_of more
@@ -58,7 +57,7 @@ fields_of (line ∷ more) = if begins_field line then field_of line (own_lines m
 unfoldable pub header_of : List ℕ → Header
 header_of bytes = record { fields = fields_of (header_lines bytes); body = body_of bytes }
 
--- the first field of a name, whatever the case of its letters
+-- the first field of a name, in either case
 abbrev pub has_name : List ℕ → FieldValue → Bool
 has_name name field = str_eq_ignore_ascii_case field.name name
 

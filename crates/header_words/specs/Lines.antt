@@ -1,4 +1,4 @@
--- The lines of a header, and where the body begins (RFC 5322 §2.1).
+-- The lines of a header, and the place of the body (RFC 5322 §2.1).
 use Rattle.std.specs.Prelude.{ℕ, ◌+◌, Bool, List, [], ◌∷◌, length, take, min, nat_lt, ◌==◌, if◌then◌else◌, take_while}
 use Rattle.std.specs.List.{slice_split, position_or_len}
 use Rattle.std.specs.Str.Lines.{lines, strip_carriage_return}
@@ -9,7 +9,7 @@ is_newline b = b == 10
 abbrev pub is_filled : List ℕ → Bool
 is_filled line = nat_lt 0 (length line)
 
--- the lines up to the first empty one; a line ends at LF, and a CR before that goes
+-- the lines up to the first empty one; a line ends at LF, and a CR before it belongs to the line break
 abbrev pub header_lines : List ℕ → List (List ℕ)
 header_lines bytes = take_while is_filled (lines bytes)
 
@@ -19,7 +19,7 @@ header_size [] = 0
 header_size (x ∷ []) = length x
 header_size (x ∷ y ∷ more) = length x + 1 + (if is_filled (strip_carriage_return x) then header_size (y ∷ more) else 0)
 
--- where the body begins: after the first empty line, or at the end where there is none
+-- the place of the body: after the first empty line, or the end if there is none
 abbrev pub body_of : List ℕ → ℕ
 body_of bytes = header_size (slice_split is_newline bytes)
 

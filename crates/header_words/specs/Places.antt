@@ -4,7 +4,7 @@ use Rattle.std.specs.Prelude.{ℕ, Bool, true, ◌+◌, ◌-◌, ◌<◌, ◌==�
 use Rattle.std.specs.Str.Lines.{lines}
 use Rattle.header_words.specs.Fields.{FieldValue, Header, field_of, begins_field}
 
--- the field that these lines are
+-- the field of these lines
 abbrev pub field_of_lines : List (List ℕ) → FieldValue
 field_of_lines [] = record { name = []; lines = [] }
 field_of_lines (line ∷ more) = field_of line more
@@ -22,18 +22,18 @@ fields_at bytes [] end = []
 fields_at bytes (a ∷ []) end = field_between bytes a end ∷ []
 fields_at bytes (a ∷ b ∷ more) end = field_between bytes a b ∷ fields_at bytes (b ∷ more) end
 
--- places that rise, up to an end
-pub record Rise (starts : List ℕ) (end : ℕ) : Type 0 where
+-- ascending places, all below an end
+pub record IsRising (starts : List ℕ) (end : ℕ) : Type 0 where
   pub next : (i : ℕ) → i + 1 < length starts → slice_index starts i < slice_index starts (i + 1)
   pub within : (i : ℕ) → i < length starts → slice_index starts i < end
 
--- what is seen of places in a message
+-- the header of these places in a message
 abbrev pub header_at : List ℕ → List ℕ → ℕ → ℕ → Header
 header_at bytes starts end body = record { fields = fields_at bytes starts end; body = body }
 
--- the places with that of one more line
-abbrev pub starts_with : List ℕ → List ℕ → ℕ → List ℕ
-starts_with starts line at = if begins_field line then starts ++ at ∷ [] else starts
+-- the places with that of one more line, if it begins a field
+abbrev pub with_start : List ℕ → List ℕ → ℕ → List ℕ
+with_start starts line at = if begins_field line then starts ++ at ∷ [] else starts
 
 -- the first bytes of a field and of a name are the same letter, in either case
 abbrev pub is_alike_first : ℕ → List ℕ → Bool

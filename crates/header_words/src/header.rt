@@ -1,4 +1,4 @@
-//! A header: its fields, and where the body begins.
+//! A header: its fields, and the place of the body.
 ghost use Rattle.std.specs.Prelude.{◌≡◌, ◌<◌, ◌≤◌, ◌+◌, ◌-◌, ◌==◌, length, slice_index_or, take, drop, Some};
 ghost use Rattle.std.specs.List.{slice_get};
 ghost use Rattle.std.specs.Char.{to_ascii_lowercase};
@@ -7,7 +7,7 @@ ghost use Rattle.header_words.specs.Places.{is_alike, is_alike_first};
 use crate::lines::{colon_of, first_line};
 use std::marker::Model;
 
-/// A field of a message, which lends its lines.
+/// A field of a message. It lends the field's lines.
 #[derive(Drop)]
 pub struct Field<'a> {
     raw: &'a [u8],
@@ -22,8 +22,7 @@ impl<'a> Model for Field<'a> {
     ghost view = { λ f. raw_field f.raw.now };
 }
 
-/// The fields of a message in order, and where its body begins. They lend the message's bytes and keep no more than the
-/// place of each.
+/// The fields of a message in order, and the place of its body. They lend the message's bytes and keep the place of each field.
 #[derive(Drop)]
 pub struct Fields<'a> {
     bytes: &'a [u8],
@@ -35,34 +34,34 @@ pub struct Fields<'a> {
 impl<'a> Model for Fields<'a> {
     ghost use Rattle.std.specs.Prelude.{◌≤◌, length};
     ghost use Rattle.header_words.specs.Fields.{Header};
-    ghost use Rattle.header_words.specs.Places.{header_at, Rise};
+    ghost use Rattle.header_words.specs.Places.{header_at, IsRising};
 
     ghost Value = { Header };
 
     ghost view = { λ f. header_at f.bytes.now f.starts.items f.end f.body };
 
-    ghost invariant = { λ f. Rise f.starts.items f.end × (f.end ≤ length f.bytes.now) };
+    ghost invariant = { λ f. IsRising f.starts.items f.end × (f.end ≤ length f.bytes.now) };
 }
 
 impl<'a> Field<'a> {
     ghost use Rattle.header_words.specs.Places.{raw_field};
     ghost use Rattle.header_words.specs.Fields.{has_name};
 
-    /// The field that a line begins, with the lines up to the next field's.
+    /// Returns the field of these bytes: its first line, and the lines before the next field.
     pub(crate) fn of(raw: &'a [u8]) -> Self
         ensures { result ≡ raw_field raw.now }
     {
         Field { raw }
     }
 
-    /// The lines of the field as they are written.
+    /// Returns the bytes of the field.
     pub(crate) fn raw(&self) -> &'a [u8]
         ensures { raw_field result.now ≡ self.now }
     {
         self.raw
     }
 
-    /// The name as it is written.
+    /// Returns the name as it is written.
     pub fn name(&self) -> &'a [u8]
         ensures { result.now ≡ self.now.name }
     {
@@ -70,7 +69,7 @@ impl<'a> Field<'a> {
         &line[..colon_of(line)]
     }
 
-    /// Whether this is the name, whatever the case of its letters.
+    /// Returns whether the field has this name, in either case.
     pub fn is_named(&self, name: &str) -> bool
         ensures { result ≡ has_name name.now self.now }
     {
@@ -111,14 +110,14 @@ fn lower(byte: u8) -> u8
 }
 
 fn between(bytes: &[u8], start: usize, end: usize) -> &[u8]
-    requires rise { start ≤ end }
+    requires rising { start ≤ end }
     requires within { end ≤ length bytes.now }
     ensures { result.now ≡ take (end - start) (drop start bytes.now) }
 {
     &bytes[start..end]
 }
 
-/// Where the field after this one begins, or the end.
+/// Returns the place of the field after this one, or the end.
 fn next_start(starts: &[usize], index: usize, end: usize) -> usize
     requires { index < length starts.now }
     ensures { result ≡ slice_index_or starts.now (index + 1) end }
@@ -131,11 +130,11 @@ fn next_start(starts: &[usize], index: usize, end: usize) -> usize
 
 impl<'a> Fields<'a> {
     ghost use Rattle.header_words.specs.Fields.{first_of};
-    ghost use Rattle.header_words.specs.Places.{header_at, Rise};
+    ghost use Rattle.header_words.specs.Places.{header_at, IsRising};
 
-    /// The fields that begin at these places.
+    /// Returns the fields that begin at these places.
     pub(crate) fn of(bytes: &'a [u8], starts: Vec<usize>, end: usize, body: usize) -> Self
-        requires rise { Rise starts.items end }
+        requires rising { IsRising starts.items end }
         requires within { end ≤ length bytes.now }
         ensures { result ≡ header_at bytes.now starts.items end body }
     {
@@ -147,27 +146,28 @@ impl<'a> Fields<'a> {
         }
     }
 
-    /// Where the body begins.
+    /// Returns the place of the body, in bytes from the message's beginning.
     pub fn body_at(&self) -> usize
         ensures { result ≡ self.now.body }
     {
         self.body
     }
 
-    /// How many fields there are.
+    /// Returns how many fields there are.
     pub fn len(&self) -> usize
         ensures { result ≡ length self.now.fields }
     {
         self.starts.len()
     }
 
+    /// Returns whether there is no field.
     pub fn is_empty(&self) -> bool
         ensures { result ≡ (length self.now.fields == 0) }
     {
         self.len() == 0
     }
 
-    /// The field of this number, from 0.
+    /// Returns the field of this number, from 0.
     pub fn get(&self, index: usize) -> Field<'a>
         requires { index < length self.now.fields }
         ensures { slice_get self.now.fields index ≡ Some result }
@@ -177,7 +177,7 @@ impl<'a> Fields<'a> {
         Field::of(between(self.bytes, start, end))
     }
 
-    /// The first field of a name, whatever the case of its letters.
+    /// Returns the first field of a name, in either case.
     pub fn first(&self, name: &str) -> Option<Field<'a>>
         ensures { result ≡ first_of name.now self.now.fields }
     {

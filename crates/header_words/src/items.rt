@@ -8,7 +8,7 @@ use crate::lines::find_byte;
 use crate::words::Word;
 use std::alloc::{AllocError, Global};
 
-/// Decodes the words of a value; other bytes stay as they are.
+/// Decodes the words of a value. Other bytes stay as they are.
 pub fn decode_words(alloc: Global, value: Vec<u8>) -> Result<Vec<u8>, AllocError>
     ensures { IfOk result (λ bytes. bytes.items ≡ with_words_decoded value.items) }
 {
@@ -38,7 +38,7 @@ fn decode_items(alloc: Global, value: &[u8]) -> Result<Vec<u8>, AllocError>
     Ok(bytes)
 }
 
-/// Adds the text of the word that comes next, or the bytes before which no word begins, and returns what follows.
+/// Adds the text of the word that comes next, or the bytes up to where the next may begin. Returns the bytes that follow.
 fn push_next<'a>(alloc: Global, bytes: &mut Vec<u8>, rest: &'a [u8]) -> Result<&'a [u8], AllocError>
     requires { 0 < length rest.now }
     ensures text { IfOk result (λ left. bytes.new.items ++ joined false (items_of left.now) ≡ bytes.old.items ++ joined false (items_of rest.now)) }
@@ -57,7 +57,7 @@ fn push_next<'a>(alloc: Global, bytes: &mut Vec<u8>, rest: &'a [u8]) -> Result<&
     }
 }
 
-/// What follows a word, without the white space before another word.
+/// Returns the bytes that follow a word, without the white space before another word.
 fn skip_gap(after: &[u8]) -> &[u8]
     ensures { result.now ≡ without_gap after.now }
 {
@@ -69,7 +69,7 @@ fn skip_gap(after: &[u8]) -> &[u8]
     }
 }
 
-/// How many bytes come before the next place where a word may begin: at least one.
+/// Returns how many bytes, at least one, come before the next place where a word may begin.
 fn plain_len(rest: &[u8]) -> usize
     requires { 0 < length rest.now }
     ensures equals { result ≡ 1 + position_or_len (λ b. b == 61) (drop 1 rest.now) }

@@ -1,13 +1,14 @@
 //! Reads a header.
 ghost use Rattle.std.specs.Prelude.{◌≡◌, ◌≤◌, length, IfOk, OnOk};
 ghost use Rattle.header_words.specs.Fields.{header_of};
-ghost use Rattle.header_words.specs.Places.{starts_with};
+ghost use Rattle.header_words.specs.Places.{with_start};
 
 use crate::header::Fields;
 use crate::lines::{first_line, is_field};
 use std::alloc::{AllocError, Global};
 
-/// The header fields of a message, up to the first empty line.
+/// Reads the header fields of a message, up to the first empty line. A line that neither begins a field nor continues one is
+/// skipped, so every message has a header, and only memory can fail.
 pub fn fields(alloc: Global, bytes: &[u8]) -> Result<Fields<'_>, AllocError>
     ensures header { IfOk result (λ read. read ≡ header_of bytes.now) }
     ensures within { IfOk result (λ read. read.body ≤ length bytes.now) }
@@ -25,9 +26,9 @@ pub fn fields(alloc: Global, bytes: &[u8]) -> Result<Fields<'_>, AllocError>
     Ok(Fields::of(bytes, starts, at, at))
 }
 
-/// Adds the place of a line that begins a field.
+/// Adds the place of a line, if it begins a field.
 fn add_start(starts: &mut Vec<usize>, line: &[u8], at: usize) -> Result<(), AllocError>
-    ensures { OnOk result (starts.new.items ≡ starts_with starts.old.items line.now at) }
+    ensures { OnOk result (starts.new.items ≡ with_start starts.old.items line.now at) }
 {
     if is_field(line) {
         starts.push(at)?;

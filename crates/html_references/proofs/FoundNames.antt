@@ -8,7 +8,7 @@ use Rattle.html_syntax.specs.Names.{Name, names, names_without_semicolon, furthe
 use Rattle.html_syntax.specs.References.{begins_with, longest, longer, is_closed, name_reference}
 use Rattle.html_references.specs.CodeReferences.{Listed, listed_names, optional, required, begins_with_char, listed_with_first, found_in, found_at, found_name, found_reference}
 
--- ---- two words with which a text begins
+-- ---- two words that a text begins with
 
 pub begins-both : (v w text : List ℕ) → begins_with v w ≡ false → begins_with w v ≡ false → begins_with v text ≡ true → begins_with w text ≡ false
 begins-both [] w text vw wv bv = absurd cc
@@ -107,7 +107,7 @@ longest-bare (n ∷ bs) ns text h =
       | inr other ↦ rw other rest
     ]
 
--- ---- what the code finds
+-- ---- the name that the code finds
 
 either : Option Name → Option Name → Option Name
 either None other = other

@@ -6,3 +6,4 @@ pub mod ReferenceBytes
 pub mod StretchReads
 pub mod FirstLetters
 pub mod FoundNames
+pub mod StretchCharacters

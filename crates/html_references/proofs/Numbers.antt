@@ -9,7 +9,7 @@ or_true : (b : Bool) → (b || true) ≡ true
 or_true true = refl
 or_true false = refl
 
--- a number above 0x10FFFF stands for U+FFFD, whichever it is
+-- each number above 0x10FFFF gives U+FFFD
 above : (n : ℕ) → nat_lt 0x10FFFF n ≡ true → char_of n ≡ 0xFFFD
 above n h = rw (h, or_true (n == 0 || is_surrogate n)) refl
 

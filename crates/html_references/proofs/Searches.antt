@@ -1,4 +1,4 @@
--- What a search for bytes says of the stretch before the place that it finds.
+-- The stretch before the place that a search for bytes finds.
 use Rattle.std.proofs.Common.{◌≡◌, ℕ, zero, suc, ◌<◌, ◌≤◌, Bool, true, not, List, [], ◌∷◌, length, take, refl, sym, subst, arith, Some, None, Option, get_or, unwrap_or}
 use Rattle.std.proofs.lemmas.Bool.{and_from, not_from_false, false_from_ne_true}
 use Rattle.std.proofs.lemmas.List.{take_all}

@@ -1,4 +1,4 @@
--- Characters before which a reference ends: it is the same, whatever stands from one of them on.
+-- Characters before which a reference ends: it is the same, whatever text begins with one of them.
 use Rattle.std.proofs.Common.{◌≡◌, ℕ, ◌+◌, ◌≤◌, Bool, true, false, not, ◌&&◌, ◌||◌, ◌==◌, ltb, List, [], ◌∷◌, ◌++◌, length, drop, take_while, ◌*◌, refl, sym, ap, ◌∙◌, arith, inl, inr, Option, Some, None, cond, fold}
 use Rattle.std.proofs.lemmas.Bool.{cases_Bool, and_parts, both_ways, eqb-true}
 use Rattle.std.proofs.lemmas.Bool.Decides.{nat_tests}
@@ -14,7 +14,7 @@ use Rattle.html_syntax.specs.References.{reference, no_reference, is_hex, begins
 abbrev pub is_of_reference : ℕ → Bool
 is_of_reference c = is_letter c || is_digit c || c == number_sign || c == semicolon || c == equals_sign
 
--- no such character stands first
+-- the text doesn't begin with such a character
 abbrev pub Stops : List ℕ → Type 0
 Stops [] = Unit {0}
 Stops (c ∷ text) = is_of_reference c ≡ false

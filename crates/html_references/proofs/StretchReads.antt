@@ -1,4 +1,4 @@
--- What a stretch of text is read as, from its front.
+-- The characters of a stretch, from its beginning on.
 use Rattle.std.proofs.Common.{◌≡◌, ℕ, zero, suc, ◌<◌, ◌≤◌, Bool, true, false, not, ◌||◌, ◌==◌, List, [], ◌∷◌, ◌++◌, length, map, take, drop, refl, sym, ap, subst, ◌∙◌, append_assoc, append-nil, arith, inl, inr, IsUtf8, IsCharBoundary, get_or}
 use Rattle.std.proofs.lemmas.Bool.{cases_Bool, and_parts, and_from, eqb-true, eqb-false}
 use Rattle.std.proofs.lemmas.Bool.Decides.{nat_tests}
@@ -7,7 +7,7 @@ use Rattle.std.specs.List.{list_all}
 use Rattle.std.specs.Str.{chars}
 use Rattle.html_syntax.specs.References.{Reference, reference}
 use Rattle.html_syntax.specs.States.{replace_null}
-use Rattle.html_references.specs.Input.{input, decode_references, read_as, in_attribute, null_as, line_end_len, is_special}
+use Rattle.html_references.specs.Input.{input, decode_references, read_as, in_attribute, null_read_as, line_end_len, is_special}
 use Rattle.html_references.specs.declared.references.Reference.{Reference as HeldReference}
 use Rattle.html_references.specs.CodeReferences.{reference_of}
 use Rattle.std.proofs.lemmas.Str.{IsCharBoundary-from_drop, IsCharBoundary-after_ascii, chars-append, chars_past_char, chars-nil, IsUtf8-encode, IsUtf8-take}
@@ -19,7 +19,7 @@ use Rattle.html_references.proofs.Stops.{reference-len}
 use Rattle.html_references.proofs.Stretches.{input-cons, input-nil, input-append_plain, input-plain, input-return_feed, input-return_alone, BeginsNoFeed, all-chars, utf8_tail}
 use Rattle.html_references.proofs.ReferenceBytes.{same_reference}
 
--- ---- characters that stand for themselves
+-- ---- characters that are read as themselves
 
 abbrev pub is_plain : ℕ → Bool
 is_plain c = not (c == 38 || c == 13 || c == 0)
@@ -57,14 +57,14 @@ weaker p q f (c ∷ cs) h =
     let parts = and_parts (p c) (list_all p cs) h in
     and_from (q c) (list_all q cs) (f c parts.0) (weaker p q f cs parts.1)
 
--- a front of such characters
+-- a prefix of such characters
 pub plain_front : (r : ReadAs) (xs ys : List ℕ) → IsUtf8 xs → list_all is_plain xs ≡ true → read_as r (input (xs ++ ys)) ≡ chars xs ++ read_as r (input ys)
 plain_front r xs ys utf8 h =
     let no_return : list_all (λ c. not (c == 13)) xs ≡ true = weaker is_plain (λ c. not (c == 13)) (λ c p. grind (arith, nat_tests)) xs h in
     ap (read_as r) (input-append_plain xs ys utf8 no_return ∙ ap (λ (l : List ℕ). l ++ input ys) (input-plain xs utf8 no_return))
     ∙ read_as-plain r (chars xs) (input ys) (all-chars is_plain (λ c big. grind (arith, nat_tests)) xs utf8 h)
 
--- what stands behind a front of such characters
+-- the text after a prefix of such characters
 pub plain_then : (r : ReadAs) (bytes : List ℕ) (n : ℕ) → IsUtf8 bytes → IsCharBoundary bytes n → list_all is_plain (take n bytes) ≡ true
     → chars (take n bytes) ++ read_as r (input (drop n bytes)) ≡ read_as r (input bytes)
 plain_then r bytes n utf8 at h =
@@ -86,14 +86,14 @@ return_feed r text = ap (read_as r) (input-return_feed text) ∙ read_as-feed r 
 pub return_alone : (r : ReadAs) (text : List ℕ) → IsUtf8 text → BeginsNoFeed text → read_as r (input (13 ∷ text)) ≡ 10 ∷ read_as r (input text)
 return_alone r text utf8 h = ap (read_as r) (input-return_alone text utf8 h) ∙ read_as-feed r (input text)
 
-read_as-null : (r : ReadAs) (text : List ℕ) → read_as r (0 ∷ text) ≡ null_as r ∷ read_as r text
+read_as-null : (r : ReadAs) (text : List ℕ) → read_as r (0 ∷ text) ≡ null_read_as r ∷ read_as r text
 unfolding decode_references
 read_as-null reads.Text text = refl
 read_as-null reads.Rcdata text = refl
 read_as-null reads.Value text = refl
 read_as-null reads.Raw text = refl
 
-pub null_here : (r : ReadAs) (text : List ℕ) → read_as r (input (0 ∷ text)) ≡ null_as r ∷ read_as r (input text)
+pub null_here : (r : ReadAs) (text : List ℕ) → read_as r (input (0 ∷ text)) ≡ null_read_as r ∷ read_as r (input text)
 null_here r text = ap (read_as r) (input-cons 0 text (omega arith) (λ (e : 0 ≡ 13). omega arith)) ∙ read_as-null r (input text)
 
 -- ---- references
@@ -135,7 +135,7 @@ reference_here reads.Raw text utf8 h = absurd h
 pub ampersand_here : (text : List ℕ) → read_as reads.Raw (input (38 ∷ text)) ≡ 38 ∷ read_as reads.Raw (input text)
 ampersand_here text = ap (map replace_null) (input-cons 38 text (omega arith) (λ (e : 38 ≡ 13). omega arith))
 
--- ---- what the code reads
+-- ---- the stretches that the code reads
 
 pub found_reads : (r : ReadAs) (f : HeldReference) (text : List ℕ) → IsUtf8 text → Refers r → reference_of f ≡ reference (in_attribute r) text
     → read_as r (input (38 ∷ text)) ≡ f.character ∷ read_as r (input (drop f.len text))
@@ -170,7 +170,7 @@ small_special b h = grind (arith, nat_tests)
 pub special_cut : (rest : List ℕ) → IsUtf8 rest → 0 < length rest → is_special (get_or rest 0 0) ≡ true → IsCharBoundary rest 1
 special_cut rest utf8 some special = IsCharBoundary-after_ascii rest 0 utf8 some (small_special (get_or rest 0 0) special)
 
-pub null_first : (r : ReadAs) (rest : List ℕ) → 0 < length rest → get_or rest 0 0 ≡ 0 → read_as r (input rest) ≡ null_as r ∷ read_as r (input (drop 1 rest))
+pub null_first : (r : ReadAs) (rest : List ℕ) → 0 < length rest → get_or rest 0 0 ≡ 0 → read_as r (input rest) ≡ null_read_as r ∷ read_as r (input (drop 1 rest))
 null_first r [] some e = absurd (omega arith)
 null_first r (b ∷ rest) some e = rw e (null_here r rest)
 
@@ -191,7 +191,7 @@ return_boundary (b ∷ rest) utf8 some special x y =
     let e = is_return b special x y in
     rw e (line_end_boundary rest (rw e at utf8))
 
--- ---- what the code adds
+-- ---- the characters that the code appends
 
 pub front_added : (r : ReadAs) (old new rest : List ℕ) (n : ℕ) → IsUtf8 old → IsUtf8 rest → IsCharBoundary rest n → list_all is_plain (take n rest) ≡ true → new ≡ old ++ take n rest
     → chars new ++ read_as r (input (drop n rest)) ≡ chars old ++ read_as r (input rest)

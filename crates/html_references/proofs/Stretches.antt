@@ -15,7 +15,7 @@ pub input-nil : input [] ≡ []
 unfolding input normalize_newlines chars
 input-nil = refl
 
--- an ASCII byte that stands for itself
+-- an ASCII byte that is read as itself
 pub input-cons : (b : ℕ) (bytes : List ℕ) → b < 128 → b ≢ 13 → input (b ∷ bytes) ≡ b ∷ input bytes
 unfolding input normalize_newlines chars
 input-cons b [] small other = rw (lt-ltb b 128 small, ne_eqb b 13 other) refl
@@ -108,7 +108,7 @@ all-newlines p feed flag (c ∷ cs) h =
       ]
     ]
 
--- so do those of its input stream, where the test lets a line feed pass if a carriage return
+-- so do those of its input stream, if the test lets a line feed pass whenever it lets a carriage return pass
 pub all-input : (p : ℕ → Bool) → PassesWide p → (p 13 ≡ true → p 10 ≡ true) → (bytes : List ℕ) → IsUtf8 bytes → list_all p bytes ≡ true → list_all p (input bytes) ≡ true
 unfolding input
 all-input p wide feed bytes utf8 h = all-newlines p feed false (chars bytes) (all-chars p wide bytes utf8 h)
@@ -127,7 +127,7 @@ no_return (c ∷ cs) h =
 wide_return : PassesWide (λ c. not (c == 13))
 wide_return c big = rw (ne_eqb c 13 (λ (e : c ≡ 13). omega arith)) refl
 
--- whatever stands after it
+-- whatever comes after it
 pub input-append_plain : (xs ys : List ℕ) → IsUtf8 xs → list_all (λ c. not (c == 13)) xs ≡ true → input (xs ++ ys) ≡ input xs ++ input ys
 unfolding input
 input-append_plain xs ys utf8 h =
@@ -143,7 +143,7 @@ input-cut n bytes utf8 m = sym (ap input (take-append-drop n bytes)) ∙ input-a
 pub input-cut_plain : (n : ℕ) (bytes : List ℕ) → IsUtf8 (take n bytes) → list_all (λ c. not (c == 13)) (take n bytes) ≡ true → input bytes ≡ input (take n bytes) ++ input (drop n bytes)
 input-cut_plain n bytes utf8 h = sym (ap input (take-append-drop n bytes)) ∙ input-append_plain (take n bytes) (drop n bytes) utf8 h
 
--- what stands from an ASCII byte other than LF on, or nothing
+-- a text that begins with an ASCII byte other than LF, or is empty
 pub marked_at : (n : ℕ) (bytes : List ℕ) → (n < length bytes → (get_or bytes n 0 < 128) × (get_or bytes n 0 ≢ 10)) → IsMarked (drop n bytes)
 marked_at n bytes h = elim (cases_lt n (length bytes)) [
   | inl lt ↦ subst IsMarked (sym (drop_more bytes n 0 lt)) (h lt)
@@ -192,7 +192,7 @@ input-first p wide feed b bytes utf8 h =
       }
     ]
 
--- a text without the ASCII character that stands first
+-- a text without its first character, which is ASCII
 pub utf8_tail : (b : ℕ) (bytes : List ℕ) → b < 128 → IsUtf8 (b ∷ bytes) → IsUtf8 bytes
 utf8_tail b bytes small utf8 = IsUtf8-drop (b ∷ bytes) 1 utf8 (IsCharBoundary-after_ascii (b ∷ bytes) 0 utf8 (omega arith) small)
 

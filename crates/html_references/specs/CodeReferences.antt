@@ -1,4 +1,4 @@
--- References and names of the code as those of the definition.
+-- The code's references and names, in the terms of the definition.
 use Rattle.std.specs.Prelude.{ℕ, ◌+◌, Bool, true, false, not, ◌&&◌, ◌==◌, if◌then◌else◌, List, [], ◌∷◌, ◌++◌, map, length, drop, Option, Some, None}
 use Rattle.std.specs.Borrow.{Bor}
 use Rattle.html_references.specs.declared.references.Reference.{Reference as HeldReference}
@@ -23,7 +23,7 @@ base false = 10
 
 -- ---- names by their first letter
 
--- a name without its semicolon, and whether it is read without one
+-- a name without its semicolon, and whether the semicolon may be left out
 pub record Listed : Type 0 where
   pub name : Name
   pub is_optional : Bool
@@ -49,16 +49,16 @@ abbrev pub begins_with_char : ℕ → List ℕ → Bool
 begins_with_char c [] = false
 begins_with_char c (x ∷ spelling) = x == c
 
--- the names that begin with this character
+-- the names that begin with a character
 abbrev pub listed_with_first : ℕ → List Listed → List Listed
 listed_with_first c [] = []
 listed_with_first c (n ∷ ns) = if begins_with_char c n.name.spelling then n ∷ listed_with_first c ns else listed_with_first c ns
 
--- what the code keeps of a name that was found
+-- the part of a name that the code keeps when it finds it
 abbrev pub found_name : Name → FoundName
 found_name n = record { len = length n.spelling; character = n.char; is_closed = is_closed n.spelling }
 
--- the name where this text stands after its spelling
+-- the name, if `rest` may follow its spelling
 abbrev pub found_at : Listed → List ℕ → Option FoundName
 found_at n rest =
     if begins_with (semicolon ∷ []) rest then Some (record { len = length n.name.spelling + 1; character = n.name.char; is_closed = true })
@@ -70,7 +70,7 @@ abbrev pub found_in : List Listed → List ℕ → Option FoundName
 found_in [] text = None
 found_in (n ∷ ns) text = if begins_with n.name.spelling text then found_at n (drop (length n.name.spelling) text) else found_in ns text
 
--- the reference of a name that was found where the text begins
+-- the reference of the name that was found at the beginning of the text
 abbrev pub found_reference : Bool → Option FoundName → List ℕ → Reference
 found_reference in_attribute None text = no_reference
 found_reference in_attribute (Some n) text =

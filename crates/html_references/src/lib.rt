@@ -1,4 +1,4 @@
-//! Stretches of an HTML text with their character references decoded (HTML Standard 13.2.5.72 to 13.2.5.80).
+//! Reads stretches of an HTML text and decodes their character references (HTML Standard 13.2.5.72 to 13.2.5.80).
 #![tactic(auto)]
 
 mod names;

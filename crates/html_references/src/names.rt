@@ -4,17 +4,17 @@ ghost use Rattle.html_syntax.specs.Names.{names};
 ghost use Rattle.html_syntax.specs.References.{longest};
 ghost use Rattle.html_references.specs.CodeReferences.{listed_of, listed_names, listed_with_first, found_in, found_at, found_name};
 
-use crate::prefixes::begins_by;
+use crate::prefixes::begins_with;
 use Semicolon::{Optional, Required};
 
-/// Whether a name is read without a semicolon too.
+/// Whether the semicolon of a name may be left out.
 #[derive(Clone, Copy)]
 pub enum Semicolon {
     Optional,
     Required,
 }
 
-/// A name without its semicolon, the character that it stands for, and whether the semicolon has to follow.
+/// A name without its semicolon, its character, and whether the semicolon has to follow.
 type Listed = (&'static str, char, Semicolon);
 
 /// A name that a text begins with: its length in bytes, its character, and whether a semicolon ends it.
@@ -25,8 +25,8 @@ pub struct FoundName {
     pub is_closed: bool,
 }
 
-/// The names that begin with this letter. No name begins with another.
-fn names_with(first: u8) -> &'static [Listed]
+/// The names that begin with a letter. No name begins with another letter than these.
+fn names_with_first(first: u8) -> &'static [Listed]
     ensures { map listed_of result.now ≡ listed_with_first first listed_names }
 {
     match first {
@@ -228,15 +228,15 @@ fn names_with(first: u8) -> &'static [Listed]
     }
 }
 
-/// The longest name that the text begins with.
+/// Returns the longest name that the text begins with.
 ///
-/// No name without its semicolon begins another, so the first that is found is the only one.
+/// No name without its semicolon begins another, so the first match is the only one.
 pub fn longest_name(text: &[u8]) -> Option<FoundName>
     ensures { result ≡ option_map found_name (longest names text.now) }
 {
     match text {
         [] => None,
-        [first, ..] => found_in(names_with(*first), text),
+        [first, ..] => found_in(names_with_first(*first), text),
     }
 }
 
@@ -246,19 +246,19 @@ fn found_in(names: &[Listed], text: &[u8]) -> Option<FoundName>
 {
     for name in names {
         let spelling = name.0.as_bytes();
-        if begins_by(spelling, text) {
+        if begins_with(spelling, text) {
             return found_at(name, &text[spelling.len()..]);
         }
     }
     None
 }
 
-/// The name where this text stands after its spelling.
+/// Returns the name if `rest` may follow its spelling.
 fn found_at(name: &Listed, rest: &[u8]) -> Option<FoundName>
     ensures { result ≡ found_at (listed_of name.now) rest.now }
 {
     let (spelling, character, semicolon) = *name;
-    let is_closed = begins_by(b";", rest);
+    let is_closed = begins_with(b";", rest);
     match semicolon {
         Required if !is_closed => None,
         _ => Some(FoundName {

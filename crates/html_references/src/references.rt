@@ -6,20 +6,20 @@ ghost use Rattle.html_references.specs.CodeReferences.{reference_of, found_refer
 
 use crate::names::{FoundName, longest_name};
 
-/// How many characters after the `&` are read with it, and the character that all of them stand for.
+/// A reference: its length in bytes after the `&`, and its character.
 #[derive(Clone, Copy)]
 pub struct Reference {
     pub len: usize,
     pub character: char,
 }
 
-/// The `&` is text.
-const NONE: Reference = Reference {
+/// No reference: the `&` is text.
+const NO_REFERENCE: Reference = Reference {
     len: 0,
     character: '&',
 };
 
-/// What 0x80 to 0x9F stand for.
+/// The characters of the numbers 0x80 to 0x9F.
 const WINDOWS_1252: [char; 32] = [
     '\u{20AC}', '\u{81}', '\u{201A}', '\u{192}', '\u{201E}', '\u{2026}', '\u{2020}', '\u{2021}',
     '\u{2C6}', '\u{2030}', '\u{160}', '\u{2039}', '\u{152}', '\u{8D}', '\u{17D}', '\u{8F}',
@@ -27,41 +27,41 @@ const WINDOWS_1252: [char; 32] = [
     '\u{2DC}', '\u{2122}', '\u{161}', '\u{203A}', '\u{153}', '\u{9D}', '\u{17E}', '\u{178}',
 ];
 
-/// The reference whose `&` stands before the text.
+/// Returns the reference whose `&` is right before the text.
 #[tactic(auto, unfolding(html_syntax::specs::References::reference))]
-pub fn reference_before(in_attribute: bool, text: &[u8]) -> Reference
+pub fn read_reference(in_attribute: bool, text: &[u8]) -> Reference
     ensures { reference_of result ≡ reference in_attribute text.now }
 {
     match text {
-        [] => NONE,
+        [] => NO_REFERENCE,
         [c, number @ ..] => {
             if *c == b'#' {
-                numbered(number)
+                read_number(number)
             } else {
-                named(in_attribute, longest_name(text), text)
+                read_name(in_attribute, longest_name(text), text)
             }
         }
     }
 }
 
-/// The text after `&#`.
-fn numbered(text: &[u8]) -> Reference
+/// Returns the reference whose `&#` is right before the text.
+fn read_number(text: &[u8]) -> Reference
     ensures { reference_of result ≡ number_reference text.now }
 {
     match text {
-        [] => NONE,
+        [] => NO_REFERENCE,
         [c, digits @ ..] => {
             if *c == b'x' || *c == b'X' {
-                digited(true, 2, leading(true, digits), digits)
+                read_digits(true, 2, leading_digits(true, digits), digits)
             } else {
-                digited(false, 1, leading(false, text), text)
+                read_digits(false, 1, leading_digits(false, text), text)
             }
         }
     }
 }
 
-/// The digits that the text begins with.
-fn leading(hexadecimal: bool, text: &[u8]) -> &[u8]
+/// Returns the digits that the text begins with.
+fn leading_digits(hexadecimal: bool, text: &[u8]) -> &[u8]
     ensures { result.now ≡ take_while (digit_test hexadecimal) text.now }
 {
     let mut count = 0;
@@ -84,21 +84,21 @@ fn is_digit_in(hexadecimal: bool, c: u8) -> bool
     }
 }
 
-/// These digits, with which the text begins, after so many characters.
-fn digited(hexadecimal: bool, before: usize, digits: &[u8], text: &[u8]) -> Reference
+/// Returns the reference of the digits that the text begins with. `before` characters are between the `&` and the text.
+fn read_digits(hexadecimal: bool, before: usize, digits: &[u8], text: &[u8]) -> Reference
     requires { before ≤ 2 }
     ensures { reference_of result ≡ digits_reference (base hexadecimal) before digits.now text.now }
 {
     match digits {
-        [] => NONE,
+        [] => NO_REFERENCE,
         [_, ..] => Reference {
-            len: before + digits.len() + semicolon_len(after(text, digits.len())),
+            len: before + digits.len() + semicolon_len(rest_after(text, digits.len())),
             character: char_of(value_of(hexadecimal, digits)),
         },
     }
 }
 
-/// A semicolon that the text begins with is read with the number.
+/// The length of the semicolon that ends a number, 0 or 1.
 fn semicolon_len(text: &[u8]) -> usize
     ensures value { result ≡ semicolon_length text.now }
     ensures bound { result ≤ 1 }
@@ -109,24 +109,24 @@ fn semicolon_len(text: &[u8]) -> usize
     }
 }
 
-fn after(text: &[u8], len: usize) -> &[u8]
+fn rest_after(text: &[u8], len: usize) -> &[u8]
     ensures { result.now ≡ drop len text.now }
 {
     if len <= text.len() { &text[len..] } else { &[] }
 }
 
-/// The value of digits, or 0x110000 where it is more.
+/// The value of digits, at most 0x110000.
 fn value_of(hexadecimal: bool, digits: &[u8]) -> u32
     ensures { result ≡ min (fold (λ n c. n * base hexadecimal + digit_value c) 0 digits.now) 0x110000 }
 {
     let mut value = 0;
     for c in digits {
-        value = grown(hexadecimal, value, digit_of(*c));
+        value = push_digit(hexadecimal, value, digit_of(*c));
     }
     value
 }
 
-fn grown(hexadecimal: bool, value: u32, digit: u32) -> u32
+fn push_digit(hexadecimal: bool, value: u32, digit: u32) -> u32
     requires value { value ≤ 0x110000 }
     requires digit { digit ≤ 36 }
     ensures { result ≡ min (value * base hexadecimal + digit) 0x110000 }
@@ -135,7 +135,7 @@ fn grown(hexadecimal: bool, value: u32, digit: u32) -> u32
     (shifted + digit).min(0x110000)
 }
 
-/// The value of a digit or a letter, 36 for another character.
+/// The value of a digit or letter, 36 for any other character.
 fn digit_of(c: u8) -> u32
     ensures value { result ≡ digit_value c }
     ensures bound { result ≤ 36 }
@@ -158,12 +158,12 @@ fn char_of(n: u32) -> char
     }
 }
 
-/// The name that was found where the text begins.
-fn named(in_attribute: bool, found: Option<FoundName>, text: &[u8]) -> Reference
+/// Returns the reference of the name that was found at the beginning of the text.
+fn read_name(in_attribute: bool, found: Option<FoundName>, text: &[u8]) -> Reference
     ensures { reference_of result ≡ found_reference in_attribute found text.now }
 {
     match found {
-        None => NONE,
+        None => NO_REFERENCE,
         Some(
             FoundName {
                 len,
@@ -171,8 +171,8 @@ fn named(in_attribute: bool, found: Option<FoundName>, text: &[u8]) -> Reference
                 is_closed,
             },
         ) => {
-            if in_attribute && !is_closed && goes_on(after(text, len)) {
-                NONE
+            if in_attribute && !is_closed && continues_name(rest_after(text, len)) {
+                NO_REFERENCE
             } else {
                 Reference { len, character }
             }
@@ -180,8 +180,8 @@ fn named(in_attribute: bool, found: Option<FoundName>, text: &[u8]) -> Reference
     }
 }
 
-/// Whether the text begins with `=` or an ASCII letter or digit.
-fn goes_on(text: &[u8]) -> bool
+/// Whether the text begins with `=` or an ASCII letter or digit, before which a name in an attribute is text.
+fn continues_name(text: &[u8]) -> bool
     ensures { result ≡ goes_on_test text.now }
 {
     match text {

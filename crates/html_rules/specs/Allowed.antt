@@ -10,7 +10,7 @@ use Rattle.html_rules.specs.MessageTokens.{is_message_token, is_message}
 use Rattle.html_rules.specs.FrameTokens.{is_frame_token, is_frame, opens_mail, style_sheet}
 use Rattle.html_rules.specs.Nesting.{IsNested}
 
--- a page with a message in the one `div` of the class `mail`, and the frame around it
+-- a page with a message in the one `div` of class `mail`, and a frame around it
 pub record HasMail (page : List Token) (images : Bool) (own : List ℕ → Bool) : Type 0 where
   pub before : List Token
   pub mail : Token
@@ -23,8 +23,8 @@ pub record HasMail (page : List Token) (images : Bool) (own : List ℕ → Bool)
   pub is_nested : IsNested message
   pub after_is_frame : IsTrue (is_frame after)
 
--- A page is the frame alone, or the frame with a message in it. `images` says whether pictures of the web were asked for,
--- `own` which addresses are the site's own pictures.
+-- A page is a frame alone, or a frame with a message in it. `images` tells whether remote pictures were requested, `own` which
+-- addresses are the site's own pictures.
 abbrev pub IsAllowed : List Token → Bool → (List ℕ → Bool) → Type 0
 IsAllowed page images own = IsTrue (is_frame page) ⊎ HasMail page images own
 
@@ -38,7 +38,7 @@ abbrev pub addresses_loaded_by : Token → List (List ℕ)
 addresses_loaded_by (Start name attributes) = flat_map (λ a. if is_loading_attribute name a then a.value ∷ [] else []) attributes
 addresses_loaded_by _ = []
 
--- the addresses from which a browser loads when it shows the page, without a click
+-- the addresses that a browser loads when it shows the page, without a click
 unfoldable pub loads : List Token → List (List ℕ)
 loads tokens = flat_map addresses_loaded_by tokens
 
@@ -46,19 +46,19 @@ loads tokens = flat_map addresses_loaded_by tokens
 abbrev pub may_load : Bool → (List ℕ → Bool) → List ℕ → Bool
 may_load images own address = same style_sheet address || is_source images own address
 
--- an allowed page loads its style sheet, the site's own pictures, and pictures of the web where they were asked for
+-- an allowed page loads its style sheet, the site's own pictures and, if requested, remote pictures
 abbrev pub AllowedPagesLoad : Type 0
 AllowedPagesLoad =
     (page : List Token) (images : Bool) (own : List ℕ → Bool) → IsAllowed page images own
     → AllByRecursion (λ address. IsTrue (may_load images own address)) (loads page)
 
--- each of its tokens is one of the frame or one of a message
+-- each of its tokens is a frame token or a message token
 abbrev pub AllowedPagesAreKnown : Type 0
 AllowedPagesAreKnown =
     (page : List Token) (images : Bool) (own : List ℕ → Bool) → IsAllowed page images own
     → IsTrue (list_all (λ t. is_frame_token t || is_message_token images own t) page)
 
--- and at most one opens a message
+-- at most one of its tokens opens a message
 abbrev pub AllowedPagesHaveOneMail : Type 0
 AllowedPagesHaveOneMail =
     (page : List Token) (images : Bool) (own : List ℕ → Bool) → IsAllowed page images own → count_by opens_mail page ≤ 1

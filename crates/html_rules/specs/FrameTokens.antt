@@ -10,8 +10,8 @@ use Rattle.html_rules.specs.Tables.{Name, words, is_element, is_frame_attribute_
 abbrev pub reverse_solidus : ℕ
 reverse_solidus = 0x5C
 
--- An address on the site itself: `/`, and then neither `/` nor `\`, which would begin the name of another site, nor a TAB, LF
--- or CR, which an address loses when it is read (URL Standard, 4.4).
+-- An address on the site itself: `/`, and next neither `/` nor `\`, which would begin the name of another host, nor a TAB, LF or
+-- CR, which a browser removes from an address (URL Standard, 4.4).
 abbrev pub is_local_address : List ℕ → Bool
 is_local_address [] = false
 is_local_address (c ∷ []) = c == solidus
@@ -20,7 +20,7 @@ is_local_address (c ∷ d ∷ cs) = c == solidus && not (d == solidus || d == re
 abbrev pub style_sheet : List ℕ
 style_sheet = codes "/site.css"
 
--- what a frame loads is its style sheet, and where it leads and sends is the site itself
+-- a frame loads its style sheet alone, and its links and forms lead to the site itself
 abbrev pub is_frame_value : Name → Attribute → Bool
 is_frame_value element a =
     if same (codes "href") a.name && same (codes "link") element then same style_sheet a.value
@@ -36,15 +36,15 @@ is_frame_token (Char c) = true
 is_frame_token (Comment text) = false
 is_frame_token Doctype = true
 
--- a class of the element
+-- the attribute gives the element this class
 abbrev pub has_class : List ℕ → Attribute → Bool
 has_class class a = same (codes "class") a.name && is_among (words a.value) class
 
--- a `div` of the class `mail`, in which a message stands
+-- a `div` of class `mail`, which holds a message
 unfoldable pub opens_mail : Token → Bool
 opens_mail (Start name attributes) = same (codes "div") name && list_any (has_class (codes "mail")) attributes
 opens_mail _ = false
 
--- a frame in which no message stands
+-- a frame without a message
 abbrev pub is_frame : List Token → Bool
 is_frame tokens = list_all (λ t. is_frame_token t && not (opens_mail t)) tokens

@@ -5,8 +5,8 @@ use Rattle.html_syntax.specs.Token.Token.{Start, End}
 use Rattle.html_syntax.specs.Tokenizer.{same}
 use Rattle.html_rules.specs.Tables.{Name, is_void}
 
--- The elements that are open after the tokens, the innermost first, where these were open before: a start tag opens its
--- element unless that is void, and an end tag closes the innermost one. None where an end tag has another name.
+-- The elements that are open after the tokens, innermost first, if `inside` were open before: a start tag opens its element unless
+-- that is void, and an end tag closes the innermost one. None if an end tag has another name.
 unfoldable pub open_elements_after : List Name → List Token → Option (List Name)
 open_elements_after inside [] = Some inside
 open_elements_after inside (Start name attributes ∷ ts) = if is_void name then open_elements_after inside ts else open_elements_after (name ∷ inside) ts

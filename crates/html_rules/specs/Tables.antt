@@ -1,4 +1,4 @@
--- The elements and attributes of pages. Each list stands here and nowhere else, a row a line.
+-- The elements and attributes of pages. Each list occurs once, one row a line.
 use Rattle.std.specs.Prelude.{ℕ, Bool, true, false, ◌&&◌, ◌||◌, ◌==◌, if◌then◌else◌, Option, Some, None, List, [], ◌∷◌, ◌++◌, codes}
 use Rattle.std.specs.List.{list_any, flat_map}
 use Rattle.html_syntax.specs.Tokenizer.{is_among}
@@ -14,7 +14,7 @@ add_letter true c words = [] ∷ words
 add_letter false c [] = (c ∷ []) ∷ []
 add_letter false c (word ∷ words) = (c ∷ word) ∷ words
 
--- the words of a text in which a space stands between two
+-- the words of a text, separated by single spaces
 abbrev pub words : List ℕ → List Name
 words [] = [] ∷ []
 words (c ∷ cs) = add_letter (c == 32) c (words cs)
@@ -25,7 +25,7 @@ words (c ∷ cs) = add_letter (c == 32) c (words cs)
 unfoldable pub message_elements : List Name
 message_elements = words (codes "a abbr address b bdo big blockquote br caption center cite code col colgroup dd del dfn div dl dt em font h1 h2 h3 h4 h5 h6 hr i img ins kbd li ol p pre q s samp small span strike strong sub sup table tbody td tfoot th thead tr tt u ul var wbr")
 
--- the elements that only a frame may have beside them
+-- further elements, which only a frame may have
 unfoldable pub frame_elements : List Name
 frame_elements = words (codes "html head meta title link body form input textarea button")
 
@@ -40,7 +40,7 @@ frame_void_elements = words (codes "meta link input")
 unfoldable pub text_only_elements : List Name
 text_only_elements = words (codes "title textarea")
 
--- the elements that are left out of a message together with their text
+-- the elements that are removed from a message together with their text
 unfoldable pub dropped_elements : List Name
 dropped_elements = words (codes "script style title iframe noembed noframes")
 
@@ -73,7 +73,7 @@ row elements attributes = record { elements = words elements; attributes = words
 unfoldable pub common_attributes : List Name
 common_attributes = words (codes "dir lang style title")
 
--- and those that these elements may have beside them
+-- further attributes, by element
 unfoldable pub attribute_rows : List AttributeRow
 attribute_rows =
     row (codes "a") (codes "href")
@@ -92,7 +92,7 @@ attribute_rows =
     ∷ row (codes "li") (codes "type value")
     ∷ []
 
--- the attributes of a link in a message beside those that its sender gave
+-- the attributes that are added to a link in a message
 unfoldable pub link_attributes : List Name
 link_attributes = words (codes "rel target")
 

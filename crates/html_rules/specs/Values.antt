@@ -19,7 +19,7 @@ abbrev pub is_empty : List ℕ → Bool
 is_empty [] = true
 is_empty (c ∷ cs) = false
 
--- up to so many digits, and an optional `%`
+-- at most `n` digits, and an optional `%`
 abbrev pub has_at_most_digits : ℕ → List ℕ → Bool
 has_at_most_digits n [] = true
 has_at_most_digits zero (c ∷ cs) = c == percent_sign && is_empty cs
@@ -56,13 +56,13 @@ is_remote value = (begins_with (codes "http://") value || begins_with (codes "ht
 unfoldable pub is_link : List ℕ → Bool
 is_link value = is_remote value || (begins_with (codes "mailto:") value && list_all is_address_char value)
 
--- an address from which a picture may be loaded: one of the site's own, or one of the web where pictures were asked for
+-- an address from which a picture may be loaded: one of the site's own or, if requested, a remote one
 unfoldable pub is_source : Bool → (List ℕ → Bool) → List ℕ → Bool
 is_source images own value = own value || (images && is_remote value)
 
 -- ---- kinds
 
--- a value of the kind. No value of the kind Style fits: a message has no `style` as long as nothing reads declarations.
+-- A value of the kind. No value is of kind Style: a message has no `style` as long as nothing reads declarations.
 unfoldable pub is_value_of : Bool → (List ℕ → Bool) → ValueKind → List ℕ → Bool
 is_value_of images own Number value = is_number value
 is_value_of images own Word value = is_word value

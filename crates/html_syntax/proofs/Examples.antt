@@ -55,6 +55,9 @@ tag_table = (codes "<B></B >", Start (codes "b") [] ∷ End (codes "b") ∷ [])
     ∷ (codes "<br/><br /><br/ >", Start (codes "br") [] ∷ Start (codes "br") [] ∷ Start (codes "br") [] ∷ [])
     ∷ (codes "<a\n>\t<\n>", Start (codes "a") [] ∷ Char 9 ∷ Char 60 ∷ Char 10 ∷ Char 62 ∷ [])
     ∷ (codes "<H1>", Start (codes "h1") [] ∷ [])
+    -- white space: a form feed, and a tabulation
+    ∷ (codes "<a" ++ 12 ∷ codes "b" ++ 12 ∷ codes "=" ++ 12 ∷ codes "c" ++ 12 ∷ codes "d>", Start (codes "a") (attribute (codes "b") (codes "c") ∷ attribute (codes "d") [] ∷ []) ∷ [])
+    ∷ (codes "</a" ++ 12 ∷ codes "b>\t<a\tb>", End (codes "a") ∷ Char 9 ∷ Start (codes "a") (attribute (codes "b") [] ∷ []) ∷ [])
     -- an end tag has no attributes
     ∷ (codes "</a b=1 c/>", End (codes "a") ∷ [])
     ∷ []
@@ -74,7 +77,7 @@ attribute_table = (codes "<a b>", Start (codes "a") (attribute (codes "b") [] �
     ∷ (codes "<a b=\"'>\" c='\">'>", Start (codes "a") (attribute (codes "b") (codes "'>") ∷ attribute (codes "c") (codes "\">") ∷ []) ∷ [])
     ∷ (codes "<a b=c\"d'<=`>", Start (codes "a") (attribute (codes "b") (codes "c\"d'<=`") ∷ []) ∷ [])
     ∷ (codes "<a \"'<>", Start (codes "a") (attribute (codes "\"'<") [] ∷ []) ∷ [])
-    -- an = where a name begins is of the name
+    -- an = at the beginning of a name belongs to the name
     ∷ (codes "<a =x>", Start (codes "a") (attribute (codes "=x") [] ∷ []) ∷ [])
     ∷ (codes "<a ==x>", Start (codes "a") (attribute (codes "=") (codes "x") ∷ []) ∷ [])
     -- of attributes of one name the first is kept
@@ -91,6 +94,7 @@ null_table = (97 ∷ 0 ∷ [], Char 97 ∷ Char 0 ∷ [])
     ∷ (codes "<" ++ 0 ∷ codes ">", Char 60 ∷ Char 0 ∷ Char 62 ∷ [])
     ∷ (codes "<a " ++ 0 ∷ codes "=" ++ 0 ∷ codes ">", Start (codes "a") (attribute (0xFFFD ∷ []) (0xFFFD ∷ []) ∷ []) ∷ [])
     ∷ (codes "<a b=\"" ++ 0 ∷ codes "\">", Start (codes "a") (attribute (codes "b") (0xFFFD ∷ []) ∷ []) ∷ [])
+    ∷ (codes "<!--" ++ 0 ∷ codes ">", Comment (0xFFFD ∷ 62 ∷ []) ∷ [])
     ∷ (codes "<!--" ++ 0 ∷ codes "-->", Comment (0xFFFD ∷ []) ∷ [])
     ∷ (codes "<?" ++ 0 ∷ codes ">", Comment (63 ∷ 0xFFFD ∷ []) ∷ [])
     ∷ (codes "<title>" ++ 0 ∷ codes "</title" ++ 0 ∷ codes ">", Start (codes "title") [] ∷ Char 0xFFFD ∷ chars (codes "</title") ++ Char 0xFFFD ∷ Char 62 ∷ [])

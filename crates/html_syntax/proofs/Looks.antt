@@ -1,4 +1,4 @@
--- How often a character is looked at.
+-- A character is looked at three times at most.
 use Rattle.std.proofs.Common.{ℕ, Bool, true, false, ◌||◌, ◌==◌, if◌then◌else◌, List, [], ◌∷◌, ◌++◌, arith}
 use Rattle.html_syntax.specs.Token.{Token}
 use Rattle.html_syntax.specs.Characters.{solidus, greater_than, is_letter, is_space}
@@ -9,7 +9,7 @@ use Rattle.html_syntax.specs.States.RawTextKind.{Rcdata, Rawtext, Script, Escape
 use Rattle.html_syntax.specs.States.State.{Data, Plaintext, TagOpen, EndTagOpen, Raw, RawLess, RawEndOpen, RawEndName, EscapeStart, EscapeStartDash, EscapedDash, EscapedDashDash, EscapedLess, DoubleStart, DoubleEscaped, DoubleDash, DoubleDashDash, DoubleLess, DoubleEnd, TagName, BeforeName, AttributeName, AfterName, BeforeValue, QuotedValue, UnquotedValue, AfterValue, SelfClosing, Bogus, CommentStart, CommentStartDash, CommentBody, CommentEndDash, CommentEnd, CommentEndBang, Markup, DoctypeBody}
 use Rattle.html_syntax.specs.Tokenizer.{look, prepend_tokens, look_again, step, IsRead}
 
--- A row with two tests that read the character: what is left is its end, which says to read it again.
+-- A row with two tests that consume the character: its last case is left, which reconsumes it.
 reads : (a b : Bool) (s t back : State) (out : List Token) (c : ℕ) (text : List ℕ) → IsRead (look_again c text (prepend_tokens [] (look back c text)))
     → IsRead (look_again c text (look_again c text (if a then SwitchTo s out else (if b then SwitchTo t out else ReconsumeIn back []))))
 unfolding look_again

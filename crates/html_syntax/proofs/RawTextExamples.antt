@@ -26,7 +26,7 @@ raw_text_table = (codes "<style>&lt;<b></b></style>c", Start (codes "style") [] 
     ∷ (codes "<noembed><b></noembed>", Start (codes "noembed") [] ∷ chars (codes "<b>") ++ End (codes "noembed") ∷ [])
     ∷ (codes "<noframes><b></noframes>", Start (codes "noframes") [] ∷ chars (codes "<b>") ++ End (codes "noframes") ∷ [])
     ∷ (codes "<style></script></styl/></style>", Start (codes "style") [] ∷ chars (codes "</script></styl/>") ++ End (codes "style") ∷ [])
-    -- where scripting is disabled, noscript holds tags
+    -- noscript holds tags, as if scripting is disabled
     ∷ (codes "<noscript><b></noscript>", Start (codes "noscript") [] ∷ Start (codes "b") [] ∷ End (codes "noscript") ∷ [])
     -- an end tag changes nothing
     ∷ (codes "</style><b>", End (codes "style") ∷ Start (codes "b") [] ∷ [])
@@ -60,6 +60,8 @@ script_table = script (codes "a<b></b>&lt;")
     ∷ script (codes "<!--a-<b")
     ∷ script (codes "<!--a--<b")
     ∷ script (codes "<!---->")
+    -- out of it by -->
+    ∷ script (codes "<!--a--><script>")
     -- escaped less-than sign, escaped end tag open, escaped end tag name
     ∷ script (codes "<!--<<1</1</scrip</b>")
     -- double escape start, with other letters

@@ -1,7 +1,8 @@
 -- Character references, computed at some texts.
-use Rattle.std.proofs.Common.{◌≡◌, ℕ, List, [], ◌∷◌, ◌++◌, codes, refl, false}
+use Rattle.std.proofs.Common.{◌≡◌, ℕ, List, [], ◌∷◌, ◌++◌, length, codes, refl, false}
 use Rattle.html_syntax.specs.Token.{Token}
 use Rattle.html_syntax.specs.Token.Token.{Start, Char}
+use Rattle.html_syntax.specs.Names.{names_without_semicolon, further_names}
 use Rattle.html_syntax.specs.References.{reference}
 use Rattle.html_syntax.specs.Tokenizer.{chars}
 use Rattle.html_syntax.proofs.Reading.{reading, AreRead, attribute}
@@ -51,6 +52,28 @@ name_table = (codes "&amp;&lt;&gt;&quot;&AMP;&LT;&GT;&QUOT;", chars (codes "&<>\
 names : AreRead name_table
 unfolding reading
 names = refl
+
+-- each name that needs its semicolon, and each name of U+00A0 to U+00FF without its semicolon
+abbrev whole_table : List (List ℕ × List Token)
+whole_table = (codes "&apos;&OElig;&oelig;&Scaron;&scaron;&Yuml;&fnof;&ensp;", chars (0x27 ∷ 0x152 ∷ 0x153 ∷ 0x160 ∷ 0x161 ∷ 0x178 ∷ 0x192 ∷ 0x2002 ∷ []))
+    ∷ (codes "&emsp;&thinsp;&zwnj;&zwj;&ndash;&mdash;&lsquo;&rsquo;", chars (0x2003 ∷ 0x2009 ∷ 0x200C ∷ 0x200D ∷ 0x2013 ∷ 0x2014 ∷ 0x2018 ∷ 0x2019 ∷ []))
+    ∷ (codes "&sbquo;&ldquo;&rdquo;&bdquo;&dagger;&Dagger;&bull;&hellip;", chars (0x201A ∷ 0x201C ∷ 0x201D ∷ 0x201E ∷ 0x2020 ∷ 0x2021 ∷ 0x2022 ∷ 0x2026 ∷ []))
+    ∷ (codes "&permil;&lsaquo;&rsaquo;&euro;&trade;&larr;&uarr;&rarr;", chars (0x2030 ∷ 0x2039 ∷ 0x203A ∷ 0x20AC ∷ 0x2122 ∷ 0x2190 ∷ 0x2191 ∷ 0x2192 ∷ []))
+    ∷ (codes "&darr;&harr;&minus;&infin;&ne;&le;&ge;&hearts;", chars (0x2193 ∷ 0x2194 ∷ 0x2212 ∷ 0x221E ∷ 0x2260 ∷ 0x2264 ∷ 0x2265 ∷ 0x2665 ∷ []))
+    ∷ (codes "&nbsp.&iexcl.&cent.&pound.&curren.&yen.&brvbar.&sect.&uml.&copy.&ordf.&laquo.&not.&shy.&reg.&macr.", chars (0xA0 ∷ 46 ∷ 0xA1 ∷ 46 ∷ 0xA2 ∷ 46 ∷ 0xA3 ∷ 46 ∷ 0xA4 ∷ 46 ∷ 0xA5 ∷ 46 ∷ 0xA6 ∷ 46 ∷ 0xA7 ∷ 46 ∷ 0xA8 ∷ 46 ∷ 0xA9 ∷ 46 ∷ 0xAA ∷ 46 ∷ 0xAB ∷ 46 ∷ 0xAC ∷ 46 ∷ 0xAD ∷ 46 ∷ 0xAE ∷ 46 ∷ 0xAF ∷ 46 ∷ []))
+    ∷ (codes "&deg.&plusmn.&sup2.&sup3.&acute.&micro.&para.&middot.&cedil.&sup1.&ordm.&raquo.&frac14.&frac12.&frac34.&iquest.", chars (0xB0 ∷ 46 ∷ 0xB1 ∷ 46 ∷ 0xB2 ∷ 46 ∷ 0xB3 ∷ 46 ∷ 0xB4 ∷ 46 ∷ 0xB5 ∷ 46 ∷ 0xB6 ∷ 46 ∷ 0xB7 ∷ 46 ∷ 0xB8 ∷ 46 ∷ 0xB9 ∷ 46 ∷ 0xBA ∷ 46 ∷ 0xBB ∷ 46 ∷ 0xBC ∷ 46 ∷ 0xBD ∷ 46 ∷ 0xBE ∷ 46 ∷ 0xBF ∷ 46 ∷ []))
+    ∷ (codes "&Agrave.&Aacute.&Acirc.&Atilde.&Auml.&Aring.&AElig.&Ccedil.&Egrave.&Eacute.&Ecirc.&Euml.&Igrave.&Iacute.&Icirc.&Iuml.", chars (0xC0 ∷ 46 ∷ 0xC1 ∷ 46 ∷ 0xC2 ∷ 46 ∷ 0xC3 ∷ 46 ∷ 0xC4 ∷ 46 ∷ 0xC5 ∷ 46 ∷ 0xC6 ∷ 46 ∷ 0xC7 ∷ 46 ∷ 0xC8 ∷ 46 ∷ 0xC9 ∷ 46 ∷ 0xCA ∷ 46 ∷ 0xCB ∷ 46 ∷ 0xCC ∷ 46 ∷ 0xCD ∷ 46 ∷ 0xCE ∷ 46 ∷ 0xCF ∷ 46 ∷ []))
+    ∷ (codes "&ETH.&Ntilde.&Ograve.&Oacute.&Ocirc.&Otilde.&Ouml.&times.&Oslash.&Ugrave.&Uacute.&Ucirc.&Uuml.&Yacute.&THORN.&szlig.", chars (0xD0 ∷ 46 ∷ 0xD1 ∷ 46 ∷ 0xD2 ∷ 46 ∷ 0xD3 ∷ 46 ∷ 0xD4 ∷ 46 ∷ 0xD5 ∷ 46 ∷ 0xD6 ∷ 46 ∷ 0xD7 ∷ 46 ∷ 0xD8 ∷ 46 ∷ 0xD9 ∷ 46 ∷ 0xDA ∷ 46 ∷ 0xDB ∷ 46 ∷ 0xDC ∷ 46 ∷ 0xDD ∷ 46 ∷ 0xDE ∷ 46 ∷ 0xDF ∷ 46 ∷ []))
+    ∷ (codes "&agrave.&aacute.&acirc.&atilde.&auml.&aring.&aelig.&ccedil.&egrave.&eacute.&ecirc.&euml.&igrave.&iacute.&icirc.&iuml.", chars (0xE0 ∷ 46 ∷ 0xE1 ∷ 46 ∷ 0xE2 ∷ 46 ∷ 0xE3 ∷ 46 ∷ 0xE4 ∷ 46 ∷ 0xE5 ∷ 46 ∷ 0xE6 ∷ 46 ∷ 0xE7 ∷ 46 ∷ 0xE8 ∷ 46 ∷ 0xE9 ∷ 46 ∷ 0xEA ∷ 46 ∷ 0xEB ∷ 46 ∷ 0xEC ∷ 46 ∷ 0xED ∷ 46 ∷ 0xEE ∷ 46 ∷ 0xEF ∷ 46 ∷ []))
+    ∷ (codes "&eth.&ntilde.&ograve.&oacute.&ocirc.&otilde.&ouml.&divide.&oslash.&ugrave.&uacute.&ucirc.&uuml.&yacute.&thorn.&yuml.", chars (0xF0 ∷ 46 ∷ 0xF1 ∷ 46 ∷ 0xF2 ∷ 46 ∷ 0xF3 ∷ 46 ∷ 0xF4 ∷ 46 ∷ 0xF5 ∷ 46 ∷ 0xF6 ∷ 46 ∷ 0xF7 ∷ 46 ∷ 0xF8 ∷ 46 ∷ 0xF9 ∷ 46 ∷ 0xFA ∷ 46 ∷ 0xFB ∷ 46 ∷ 0xFC ∷ 46 ∷ 0xFD ∷ 46 ∷ 0xFE ∷ 46 ∷ 0xFF ∷ 46 ∷ []))
+    ∷ []
+
+whole : AreRead whole_table
+unfolding reading
+whole = refl
+
+counts : (length names_without_semicolon ≡ 106) × (length further_names ≡ 40)
+counts = (refl, refl)
 
 -- a tag with one attribute
 abbrev value : List ℕ → List ℕ → List ℕ × List Token

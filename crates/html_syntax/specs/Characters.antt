@@ -96,11 +96,11 @@ is_letter c = is_between 0x41 0x5A c || is_between 0x61 0x7A c
 abbrev pub is_hex : ℕ → Bool
 is_hex c = is_digit c || is_between 0x41 0x46 c || is_between 0x61 0x66 c
 
--- The white space of the rows. A carriage return is not among it: none is left when the rows read (Tokenizer, `newlines`),
--- and one that a character reference gives is not read by a row.
+-- The white space of the rows. A carriage return is not in it: `normalize_newlines` leaves none in the input, and a row never
+-- reads the character of a reference.
 abbrev pub is_space : ℕ → Bool
 is_space c = c == tabulation || c == line_feed || c == form_feed || c == space
 
--- an ASCII upper alpha lowered; every other character itself
+-- an ASCII upper alpha in lower case; any other character itself
 abbrev pub lower : ℕ → ℕ
 lower c = to_ascii_lowercase c

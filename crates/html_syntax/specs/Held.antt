@@ -1,4 +1,4 @@
--- The tokens that the code's tokens stand for.
+-- The tokens of the definition that the code's tokens hold.
 use Rattle.std.specs.Prelude.{List, [], ◌∷◌, ◌++◌, chars}
 use Rattle.html_syntax.specs.declared.token.Token.TheVariants as held
 use Rattle.html_syntax.specs.declared.token.Token.{Token as HeldToken}
@@ -6,7 +6,7 @@ use Rattle.html_syntax.specs.Token.{Token}
 use Rattle.html_syntax.specs.Token.Token.{Start, End, Comment, Doctype}
 use Rattle.html_syntax.specs.Rows.{chars as char_tokens}
 
--- a token of text stands for a character token for each of its characters
+-- a token of text holds one character token for each of its characters
 abbrev pub meaning : HeldToken → List Token
 meaning (held.Start name attributes) = Start (chars name) attributes ∷ []
 meaning (held.End name) = End (chars name) ∷ []

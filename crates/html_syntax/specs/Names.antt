@@ -1,10 +1,10 @@
--- The named character references that are read (HTML Standard 13.5). These are all the names that the Standard reads without
--- a semicolon, and 40 of those that it reads only with one.
+-- The named character references that are read (HTML Standard 13.5): all names that the Standard reads without a semicolon, and
+-- 40 of those that it reads only with one.
 use Rattle.std.specs.Prelude.{ℕ, ◌+◌, ◌==◌, List, [], ◌∷◌, ◌++◌, map, codes}
 use Rattle.std.specs.List.{slice_split}
 use Rattle.html_syntax.specs.Characters.{space, semicolon, ampersand, less_than, greater_than, quotation_mark}
 
--- what stands after the `&`, and the character that both stand for
+-- the text after the `&`, and the character of the reference
 pub record Name : Type 0 where
   pub spelling : List ℕ
   pub char : ℕ
@@ -12,11 +12,11 @@ pub record Name : Type 0 where
 abbrev pub new_name : List ℕ → ℕ → Name
 new_name spelling char = record { spelling = spelling; char = char }
 
--- the spellings of a text, which a space separates
+-- the words of a text, separated by spaces
 abbrev pub words : List ℕ → List (List ℕ)
 words text = slice_split (λ c. c == space) text
 
--- these spellings, for this character and those after it
+-- names of consecutive characters, the first of which is `n`
 abbrev pub named_from : ℕ → List (List ℕ) → List Name
 named_from n [] = []
 named_from n (x ∷ xs) = new_name x n ∷ named_from (n + 1) xs

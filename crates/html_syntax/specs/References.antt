@@ -1,15 +1,15 @@
 -- Character references: what is read after an `&` (HTML Standard 13.2.5.72 to 13.2.5.80).
 --
 -- The Standard reads a reference by nine states, one character at a time. Here one function looks at the text after the `&`,
--- and says how many of its characters belong to the reference. Where it is no reference the `&` is text, and the characters
--- after it are read by the row that met the `&`; the Standard's flushing of them gives the same.
+-- and returns how many of its characters belong to the reference. If there is no reference, the `&` is text, and the row that met
+-- it reads the characters after it; the Standard's flushing of them gives the same.
 use Rattle.std.specs.Prelude.{ℕ, ◌+◌, ◌-◌, ◌*◌, Bool, true, false, not, ◌&&◌, ◌||◌, ◌==◌, nat_lt, if◌then◌else◌, List, [], ◌∷◌, length, drop, take_while, fold, slice_index, Option, Some, None}
 use Rattle.std.specs.Char.{digit_value}
 use Rattle.html_syntax.specs.Names.{Name, names}
 use Rattle.html_syntax.specs.Characters.{ampersand, number_sign, semicolon, equals_sign, capital_x, small_x, replacement}
 pub use Rattle.html_syntax.specs.Characters.{is_between, is_letter, is_digit, is_hex}
 
--- how many characters after the & are read with it, and the characters that all of them stand for
+-- the number of characters after the & that belong to the reference, and the characters that it is replaced by
 pub record Reference : Type 0 where
   pub len : ℕ
   pub chars : List ℕ
@@ -20,7 +20,7 @@ no_reference = record { len = 0; chars = ampersand ∷ [] }
 
 -- ---- numbers (13.2.5.75 to 13.2.5.80)
 
--- what 0x80 to 0x9F stand for; 81, 8D, 8F, 90 and 9D stand for themselves (13.2.5.80, the table)
+-- the characters of 0x80 to 0x9F; 81, 8D, 8F, 90 and 9D are themselves (13.2.5.80, the table)
 abbrev pub windows_1252 : List ℕ
 windows_1252 = 0x20AC ∷ 0x81 ∷ 0x201A ∷ 0x0192 ∷ 0x201E ∷ 0x2026 ∷ 0x2020 ∷ 0x2021
     ∷ 0x02C6 ∷ 0x2030 ∷ 0x0160 ∷ 0x2039 ∷ 0x0152 ∷ 0x8D ∷ 0x017D ∷ 0x8F
@@ -37,13 +37,13 @@ char_of n =
     else (if is_between 0x80 0x9F n then slice_index windows_1252 (n - 0x80)
     else n)
 
--- a semicolon that stands in front of the text is read with the number
+-- a semicolon at the beginning of the text belongs to the number
 abbrev pub semicolon_len : List ℕ → ℕ
 semicolon_len [] = 0
 semicolon_len (c ∷ cs) = if c == semicolon then 1 else 0
 
--- These digits of a base. `before` counts the characters between the & and them, and `text` begins with them. Without a digit
--- it is no reference (13.2.5.76, 13.2.5.77).
+-- The reference of digits of a base. `text` begins with the digits, and `before` characters are between the & and them. Without a
+-- digit there is no reference (13.2.5.76, 13.2.5.77).
 abbrev pub digits_reference : ℕ → ℕ → List ℕ → List ℕ → Reference
 digits_reference base before [] text = no_reference
 digits_reference base before (d ∷ ds) text = record {
@@ -51,7 +51,7 @@ digits_reference base before (d ∷ ds) text = record {
   chars = char_of (fold (λ n c. n * base + digit_value c) 0 (d ∷ ds)) ∷ [];
 }
 
--- the text after `&#`
+-- the reference of the text after `&#`
 abbrev pub number_reference : List ℕ → Reference
 number_reference [] = no_reference
 number_reference (c ∷ cs) =
@@ -86,14 +86,14 @@ is_closed [] = false
 is_closed (c ∷ []) = c == semicolon
 is_closed (c ∷ d ∷ cs) = is_closed (d ∷ cs)
 
--- In an attribute a name without its semicolon that goes on with = or an ASCII letter or digit is text.
+-- In an attribute, a name without its semicolon is text if = or an ASCII letter or digit follows.
 abbrev pub name_reference : Bool → Option Name → List ℕ → Reference
 name_reference in_attribute None text = no_reference
 name_reference in_attribute (Some n) text =
     if in_attribute && not (is_closed n.spelling) && continues_name (drop (length n.spelling) text) then no_reference
     else record { len = length n.spelling; chars = n.char ∷ [] }
 
--- the reference whose & stands before this text (13.2.5.72)
+-- the reference whose & is right before the text (13.2.5.72)
 unfoldable pub reference : Bool → List ℕ → Reference
 reference in_attribute [] = no_reference
 reference in_attribute (c ∷ cs) =

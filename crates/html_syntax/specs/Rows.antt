@@ -1,5 +1,5 @@
 -- The rows of the tokenizer: what each state does with the next character, in the order of the HTML Standard's section 13.2.5.
--- Parse errors are not reported, so a test of the Standard that only reports one has no test here.
+-- Parse errors are not reported, so a test of the Standard that only reports one is left out here.
 use Rattle.std.specs.Prelude.{ℕ, true, false, ◌&&◌, ◌||◌, ◌==◌, if◌then◌else◌, List, [], ◌∷◌, ◌++◌, map, take, codes}
 use Rattle.html_syntax.specs.Token.{Token}
 use Rattle.html_syntax.specs.Token.Token.{Char, Comment, Doctype}
@@ -10,16 +10,16 @@ use Rattle.html_syntax.specs.States.RawTextKind.{Rcdata, Rawtext, Script, Escape
 use Rattle.html_syntax.specs.States.State.{Data, Plaintext, TagOpen, EndTagOpen, Raw, RawLess, RawEndOpen, RawEndName, EscapeStart, EscapeStartDash, EscapedDash, EscapedDashDash, EscapedLess, DoubleStart, DoubleEscaped, DoubleDash, DoubleDashDash, DoubleLess, DoubleEnd, TagName, BeforeName, AttributeName, AfterName, BeforeValue, QuotedValue, UnquotedValue, AfterValue, SelfClosing, Bogus, CommentStart, CommentStartDash, CommentBody, CommentEndDash, CommentEnd, CommentEndBang, Markup, DoctypeBody}
 use Rattle.html_syntax.specs.States.Action.{SwitchTo, SwitchPast, ReconsumeIn}
 
--- these characters, emitted
+-- a character token for each character
 abbrev pub chars : List ℕ → List Token
 chars cs = map (λ c. Char c) cs
 
--- this character, emitted as every state but the data state emits it
+-- the character token that every state but the data state emits
 abbrev pub emit_char : ℕ → List Token
 emit_char c = Char (replace_null c) ∷ []
 
--- The end tag names of RCDATA, RAWTEXT, script data and escaped script data. An end tag is read where its name is the last
--- start tag's ('appropriate end tag token'); else what was read is text.
+-- The end tag names of RCDATA, RAWTEXT, script data and escaped script data. An end tag is read if its name is the last
+-- start tag's ('appropriate end tag token'); else its characters are text.
 abbrev pub raw_end_name : RawTextKind → List ℕ → List ℕ → ℕ → Action
 raw_end_name kind last letters c =
     let tag : Tag = record { is_end = true; name = map lower letters; attributes = [] } in
@@ -30,13 +30,13 @@ raw_end_name kind last letters c =
     else (if is_end && c == greater_than then emit tag
     else ReconsumeIn (Raw kind last) (chars (less_than ∷ solidus ∷ letters)))))
 
--- the end of the letters of a double escape: one state where they are `script`, the other where they are not
+-- the state after the letters of a double escape: the first if they are `script`, else the second
 abbrev pub double_escape_state : State → State → List ℕ → State
 double_escape_state script other letters = if same (codes "script") (map lower letters) then script else other
 
--- the state, the character, and the text after it
+-- The row of a state for a character and the text after it.
 unfoldable pub look : State → ℕ → List ℕ → Action
--- 13.2.5.1 Data state. U+0000 is emitted as it stands.
+-- 13.2.5.1 Data state. U+0000 is emitted unchanged.
 look Data c text =
     if c == ampersand then (let r = reference false text in SwitchPast r.len Data (chars r.chars))
     else (if c == less_than then SwitchTo TagOpen []
@@ -274,7 +274,7 @@ look DoctypeBody c text =
     if c == greater_than then SwitchTo Data (Doctype ∷ [])
     else SwitchTo DoctypeBody []
 
--- What the end of the text gives in each state. A tag that is not ended gives nothing (13.2.5.8 and others, 'eof-in-tag').
+-- The tokens that the end of the text gives in each state. A tag that is not ended gives nothing (13.2.5.8 and others, 'eof-in-tag').
 unfoldable pub tokens_at_end : State → List Token
 tokens_at_end Data = []
 tokens_at_end Plaintext = []

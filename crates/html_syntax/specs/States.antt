@@ -1,4 +1,4 @@
--- What the tokenizer remembers between two characters, and what a row of its table says.
+-- The state of the tokenizer between two characters, and the action of a row of its table.
 use Rattle.std.specs.Prelude.{ℕ, Bool, true, false, ◌||◌, ◌==◌, if◌then◌else◌, List, [], ◌∷◌, ◌++◌, codes, bytes_eq}
 use Rattle.std.specs.List.{list_any}
 use Rattle.html_syntax.specs.Token.{Attribute, Token}
@@ -22,7 +22,7 @@ is_script Rcdata = false
 is_script Rawtext = false
 is_script Escaped = false
 
--- A state of the Standard, and with it what is being read there: `last` is the name of the last start tag, `letters` is the
+-- A state of the Standard, with what is being read in it: `last` is the name of the last start tag, `letters` is the
 -- temporary buffer, `name` and `value` are the attribute's, `comment` is the comment's text so far.
 pub data State : Type 0 where
   Data Plaintext TagOpen EndTagOpen : State
@@ -50,14 +50,14 @@ pub data State : Type 0 where
   Bogus CommentStart CommentStartDash CommentBody CommentEndDash CommentEnd CommentEndBang : List ℕ → State
   Markup DoctypeBody : State
 
--- What a row says of a character. Go: the state is this now, and these tokens are emitted. Past: so many characters after it
--- are read with it. Again: the Standard's 'reconsume', so it is read again in this state.
+-- The action of a row for a character. Each emits its tokens. SwitchTo consumes the character and switches to the state.
+-- SwitchPast n consumes the n characters after it too. ReconsumeIn switches without consuming it.
 pub data Action : Type 0 where
   SwitchTo : State → List Token → Action
   SwitchPast : ℕ → State → List Token → Action
   ReconsumeIn : State → List Token → Action
 
--- the name is the word
+-- the name equals the word
 abbrev pub same : List ℕ → List ℕ → Bool
 same word name = bytes_eq name word
 
@@ -71,7 +71,7 @@ abbrev pub raw_names : List (List ℕ)
 raw_names = codes "style" ∷ codes "xmp" ∷ codes "iframe" ∷ codes "noembed" ∷ codes "noframes" ∷ []
 
 -- The state after a start tag of this name. In the Standard tree construction switches the tokenizer (13.2.6); here the name
--- alone does, wherever the tag stands. `noscript` is not among the names: it reads as where scripting is disabled.
+-- alone does, wherever the tag is. `noscript` is not among the names, as if scripting is disabled.
 abbrev pub state_after_start : List ℕ → State
 state_after_start name =
     if is_among rcdata_names name then Raw Rcdata name
@@ -93,19 +93,19 @@ abbrev pub has_name : List ℕ → List Attribute → Bool
 has_name name [] = false
 has_name name (a ∷ rest) = same a.name name || has_name name rest
 
--- The attribute is read. Of attributes of one name the first is kept (13.2.5.33).
+-- Adds an attribute that was read. Of attributes of one name the first is kept (13.2.5.33).
 abbrev pub keep : Tag → List ℕ → List ℕ → Tag
 keep tag name value =
     if has_name name tag.attributes then tag
     else record { is_end = tag.is_end; name = tag.name; attributes = tag.attributes ++ record { name = name; value = value } ∷ [] }
 
--- An attribute without a value is read. Without a letter of its name none was begun: the row after attribute name is reached
--- from the one before it too.
+-- Adds an attribute without a value. An empty name is no attribute: the row after attribute name is reached from the row before
+-- it too.
 abbrev pub keep_flag : Tag → List ℕ → Tag
 keep_flag tag [] = tag
 keep_flag tag (c ∷ name) = keep tag (c ∷ name) []
 
--- the > of a tag
+-- emits the tag at its >
 abbrev pub emit : Tag → Action
 emit tag =
     if tag.is_end then SwitchTo State.Data (End tag.name ∷ [])
@@ -117,7 +117,7 @@ emit tag =
 abbrev pub replace_null : ℕ → ℕ
 replace_null c = if c == null then replacement else c
 
--- the name, value or comment with one more character
+-- the text of a name, value or comment with one more character
 abbrev pub with_char : List ℕ → ℕ → List ℕ
 with_char text c = text ++ replace_null c ∷ []
 

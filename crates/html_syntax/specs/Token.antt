@@ -1,4 +1,4 @@
--- What a text is read as: a list of tokens (HTML Standard 13.2.5). A text is the list of its characters' numbers.
+-- The tokens of a text (HTML Standard 13.2.5). A text is the list of its characters' numbers.
 use Rattle.std.specs.Prelude.{ℕ, List, [], chars, string_bytes, slice_index_or, String}
 
 pub record Attribute : Type 0 where
@@ -14,7 +14,7 @@ pub data Token : Type 0 where
   Comment : List ℕ → Token
   Doctype : Token
 
--- an attribute without where it lies in memory
+-- the attribute of a pair of strings
 abbrev pub attribute_of : {Z : Type 0} → String Z × String Z → Attribute
 attribute_of p = record { name = chars (string_bytes p.0); value = chars (string_bytes p.1) }
 

@@ -19,13 +19,13 @@ prepend_tokens out (SwitchTo s more) = SwitchTo s (out ++ more)
 prepend_tokens out (SwitchPast n s more) = SwitchPast n s (out ++ more)
 prepend_tokens out (ReconsumeIn s more) = ReconsumeIn s (out ++ more)
 
--- a character that a row says to read again is looked at in the state that the row names
+-- looks again at a character that is reconsumed, in the state that the action names
 unfoldable pub look_again : ℕ → List ℕ → Action → Action
 look_again c text (SwitchTo s out) = SwitchTo s out
 look_again c text (SwitchPast n s out) = SwitchPast n s out
 look_again c text (ReconsumeIn s out) = prepend_tokens out (look s c text)
 
--- What a character does: three looks at most (`ThreeLooksSuffice`).
+-- The action of a state for a character, after three looks at most (`ThreeLooksSuffice`).
 unfoldable pub step : State → ℕ → List ℕ → Action
 step s c text = look_again c text (look_again c text (look s c text))
 
@@ -34,7 +34,7 @@ IsRead (SwitchTo s out) = Unit {0}
 IsRead (SwitchPast n s out) = Unit {0}
 IsRead (ReconsumeIn s out) = ⊥
 
--- No step ends with a character that is still to be read again.
+-- No step ends with a character that is still to be reconsumed.
 abbrev pub ThreeLooksSuffice : Type 0
 ThreeLooksSuffice = (s : State) (c : ℕ) (text : List ℕ) → IsRead (step s c text)
 
@@ -55,13 +55,13 @@ skip_count (ReconsumeIn s out) = 0
 
 -- ---- a text
 
--- The tokens of a text that is read from this state on. The first `passing` of its characters were read with an earlier one.
+-- The tokens of a text that is read from a state on. Its first `passing` characters were consumed with an earlier one.
 unfoldable pub read : State → ℕ → List ℕ → List Token
 read s passing [] = tokens_at_end s
 read s (suc passing) (c ∷ text) = read s passing text
 read s zero (c ∷ text) = let m = step s c text in emitted_tokens m ++ read (next_state m) (skip_count m) text
 
--- what stands for a character of the input stream, after a carriage return or not
+-- the normalized character, after a carriage return or not
 abbrev pub normalize_char : Bool → ℕ → List ℕ
 normalize_char after_return c =
     if c == carriage_return then line_feed ∷ []
@@ -77,7 +77,7 @@ normalize_newlines after_return (c ∷ text) = normalize_char after_return c ++ 
 unfoldable pub tokens : List ℕ → List Token
 tokens text = read Data 0 (normalize_newlines false text)
 
--- The tokens of bytes, which are read as UTF-8 (13.2.3). Bytes that are none are read as U+FFFD; a byte order mark is a
--- character as every other.
+-- The tokens of bytes, which are read as UTF-8 (13.2.3). Bytes that aren't UTF-8 are read as U+FFFD; a byte order mark is a
+-- character as any other.
 unfoldable pub tokens_of_bytes : List ℕ → List Token
 tokens_of_bytes bytes = tokens (text_chars (utf8_lossy bytes))

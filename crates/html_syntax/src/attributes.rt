@@ -8,8 +8,8 @@ use std::alloc::Global;
 use std::fmt;
 use std::marker::Model;
 
-/// The attributes of a start tag in their order, seen as the list of their names and values. It keeps what is pushed, also a
-/// second attribute of a name.
+/// The attributes of a start tag in order, seen as the list of their names and values. `push` keeps a second attribute of a name
+/// too.
 #[derive(Drop)]
 pub struct Attributes {
     pairs: Vec<(String, String)>,
@@ -25,6 +25,7 @@ impl Model for Attributes {
 }
 
 impl Attributes {
+    /// Returns no attributes.
     pub fn new(alloc: Global) -> Attributes
         ensures { result ≡ [] }
     {
@@ -33,7 +34,7 @@ impl Attributes {
         }
     }
 
-    /// The attributes with these names and values.
+    /// Returns the attributes with these names and values.
     pub fn from_pairs(pairs: Vec<(String, String)>) -> Attributes
         ensures { result ≡ map attribute_of pairs.items }
     {
@@ -42,8 +43,8 @@ impl Attributes {
 
     /// Adds an attribute at the end.
     pub fn push(&mut self, alloc: Global, name: &str, value: &str) -> Result<(), Memory>
-        ensures ok { OnOk result (self.new ≡ self.old ++ record { name = chars name.now; value = chars value.now } ∷ []) }
-        ensures err { OnErr result (self.new ≡ self.old) }
+        ensures appended { OnOk result (self.new ≡ self.old ++ record { name = chars name.now; value = chars value.now } ∷ []) }
+        ensures unchanged_on_err { OnErr result (self.new ≡ self.old) }
     {
         let name = String::from_str(alloc, name)?;
         let value = String::from_str(alloc, value)?;
@@ -51,12 +52,14 @@ impl Attributes {
         Ok(())
     }
 
+    /// The number of attributes.
     pub fn len(&self) -> usize
         ensures { result ≡ length self.now }
     {
         self.pairs.len()
     }
 
+    /// Whether there are no attributes.
     pub fn is_empty(&self) -> bool
         ensures { IsTrue result ↔ (self.now ≡ []) }
     {
@@ -75,7 +78,7 @@ impl Attributes {
         false
     }
 
-    /// The name of the attribute at a place; the first is at 0.
+    /// The name of the attribute at an index from 0.
     pub fn name(&self, index: usize) -> &str
         requires { index < length self.now }
         ensures { result.now ≡ encode_utf8_all (name_at self.now index) }
@@ -83,7 +86,7 @@ impl Attributes {
         self.pairs[index].0.as_str()
     }
 
-    /// The value of the attribute at a place, empty where the tag gives none.
+    /// The value of the attribute at an index from 0, empty if the tag gives none.
     pub fn value(&self, index: usize) -> &str
         requires { index < length self.now }
         ensures { chars result.now ≡ value_at self.now index }
@@ -92,7 +95,7 @@ impl Attributes {
     }
 }
 
-/// Each name and value in quotes, after a space: ` "href"="x"`.
+/// Writes each name and value in quotes, after a space: ` "href"="x"`.
 impl fmt::Display for Attributes {
     fn fmt<W: fmt::Write>(&self, f: &mut fmt::Formatter<W>) -> fmt::Result {
         for (name, value) in &self.pairs {

@@ -1,4 +1,4 @@
-//! A token as code holds it.
+//! The token type of the code.
 use crate::Attributes;
 use mail_values::Text;
 use std::fmt;
@@ -15,7 +15,7 @@ pub enum Token {
     Doctype,
 }
 
-/// The kind of the token and its texts in quotes, escaped as `{:?}` escapes them: `Start "a" "href"="x"`.
+/// Writes the kind of the token and its texts in quotes, escaped as by `{:?}`: `Start "a" "href"="x"`.
 impl fmt::Display for Token {
     fn fmt<W: fmt::Write>(&self, f: &mut fmt::Formatter<W>) -> fmt::Result {
         match self {

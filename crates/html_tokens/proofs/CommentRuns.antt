@@ -9,8 +9,8 @@ use Rattle.html_syntax.specs.States.{replace_null}
 use Rattle.html_syntax.specs.States.State.{Data, Bogus, CommentStart, CommentStartDash, CommentBody, CommentEndDash, CommentEnd, CommentEndBang, DoctypeBody}
 use Rattle.html_syntax.specs.Tokenizer.{look, look_again, step, read, tokens_at_end}
 use Rattle.html_references.specs.Input.{input}
-use Rattle.html_tokens.specs.Cuts.{Lacks, BeginsWith, EndsBy}
-use Rattle.html_tokens.specs.Closings.{after_hyphens, closing, abrupt}
+use Rattle.html_tokens.specs.Cuts.{LacksByte, BeginsWithByte, IsCutAt}
+use Rattle.html_tokens.specs.Closings.{closing_len_after_hyphens, closing_len, abrupt_len}
 use Rattle.html_tokens.proofs.Runs.{Reader, reconsumed, run}
 use Rattle.html_tokens.proofs.Marks.{Marks, begins_marked}
 use Rattle.std.proofs.lemmas.List.{map-append, drop-drop, length-drop}
@@ -100,7 +100,7 @@ unclosed_first b bytes utf8 h = input-first is_unclosed (λ c big. grind (arith,
 
 -- ---- a hyphen that ends nothing is of the comment
 
--- after `--!`, where no `>` follows
+-- after `--!`, if no `>` follows
 banged : (k : List ℕ) (b : ℕ) (bytes : List ℕ) → IsUtf8 (b ∷ bytes) → (b == 62) ≡ false
     → read (CommentEndBang k) 0 (input (b ∷ bytes)) ≡ read (CommentBody (k ++ 45 ∷ 45 ∷ 33 ∷ [])) 0 (input (b ∷ bytes))
 banged k b bytes utf8 h =
@@ -114,7 +114,7 @@ banged k b bytes utf8 h =
     ])
 
 -- after `--`
-dashed : (k : List ℕ) (b : ℕ) (bytes : List ℕ) → IsUtf8 (b ∷ bytes) → after_hyphens (b ∷ bytes) ≡ 0
+dashed : (k : List ℕ) (b : ℕ) (bytes : List ℕ) → IsUtf8 (b ∷ bytes) → closing_len_after_hyphens (b ∷ bytes) ≡ 0
     → read (CommentEnd k) 0 (input (b ∷ bytes)) ≡ read (CommentEndDash (k ++ 45 ∷ [])) 0 (input (b ∷ bytes))
 dashed k b bytes utf8 h = elim (cases_Bool (b == 45)) [
   | inl dash ↦
@@ -135,7 +135,7 @@ dashed k b bytes utf8 h = elim (cases_Bool (b == 45)) [
   ]
 ]
   where
-    unended : (bytes : List ℕ) → after_hyphens (b ∷ bytes) ≡ 0 → (b == 62) ≡ false
+    unended : (bytes : List ℕ) → closing_len_after_hyphens (b ∷ bytes) ≡ 0 → (b == 62) ≡ false
     unended [] h = grind (arith, nat_tests)
     unended (d ∷ bytes) h = grind (arith, nat_tests)
 
@@ -145,13 +145,13 @@ dashed k b bytes utf8 h = elim (cases_Bool (b == 45)) [
         ∙ body_bang (k ++ 45 ∷ [] ++ 45 ∷ []) (input bytes)
         ∙ ap (λ (l : List ℕ). read (CommentBody l) 0 (input bytes)) (append_assoc (k ++ 45 ∷ []) (45 ∷ []) (33 ∷ []) ∙ append_assoc k (45 ∷ []) (45 ∷ 33 ∷ []))
 
-    banging : (bytes : List ℕ) → b ≡ 33 → IsUtf8 bytes → after_hyphens (b ∷ bytes) ≡ 0 → read (CommentEnd k) 0 (input (b ∷ bytes)) ≡ read (CommentEndDash (k ++ 45 ∷ [])) 0 (input (b ∷ bytes))
+    banging : (bytes : List ℕ) → b ≡ 33 → IsUtf8 bytes → closing_len_after_hyphens (b ∷ bytes) ≡ 0 → read (CommentEnd k) 0 (input (b ∷ bytes)) ≡ read (CommentEndDash (k ++ 45 ∷ [])) 0 (input (b ∷ bytes))
     banging [] e utf8 h = absurd (grind (arith, nat_tests))
     banging (d ∷ bytes) e utf8 h =
         let unended_here : (d == 62) ≡ false = grind (arith, nat_tests) in
         rw (e, bang (d ∷ bytes)) (end_bang k (input (d ∷ bytes)) ∙ banged k d bytes utf8 unended_here ∙ sym (more (d ∷ bytes)))
 
-pub dash_kept : (k bytes : List ℕ) → IsUtf8 bytes → closing (45 ∷ bytes) ≡ 0 → read (CommentBody k) 0 (input (45 ∷ bytes)) ≡ read (CommentBody (k ++ 45 ∷ [])) 0 (input bytes)
+pub dash_kept : (k bytes : List ℕ) → IsUtf8 bytes → closing_len (45 ∷ bytes) ≡ 0 → read (CommentBody k) 0 (input (45 ∷ bytes)) ≡ read (CommentBody (k ++ 45 ∷ [])) 0 (input bytes)
 dash_kept k [] utf8 h = absurd cc
 dash_kept k (b ∷ bytes) utf8 h = rw (hyphen (b ∷ bytes)) (body_dash k (input (b ∷ bytes)) ∙ (elim (cases_Bool (b == 45)) [
   | inl dash ↦
@@ -164,10 +164,10 @@ dash_kept k (b ∷ bytes) utf8 h = rw (hyphen (b ∷ bytes)) (body_dash k (input
       rw f.is (dash_other k f.char f.rest x)
 ]))
   where
-    second : (bytes : List ℕ) → b ≡ 45 → IsUtf8 bytes → closing (45 ∷ b ∷ bytes) ≡ 0 → read (CommentEndDash k) 0 (input (b ∷ bytes)) ≡ read (CommentBody (k ++ 45 ∷ [])) 0 (input (b ∷ bytes))
+    second : (bytes : List ℕ) → b ≡ 45 → IsUtf8 bytes → closing_len (45 ∷ b ∷ bytes) ≡ 0 → read (CommentEndDash k) 0 (input (b ∷ bytes)) ≡ read (CommentBody (k ++ 45 ∷ [])) 0 (input (b ∷ bytes))
     second [] e utf8 h = absurd (grind (arith, nat_tests))
     second (d ∷ bytes) e utf8 h =
-        let g : after_hyphens (d ∷ bytes) ≡ 0 = (rw e at h) in
+        let g : closing_len_after_hyphens (d ∷ bytes) ≡ 0 = (rw e at h) in
         rw (e, hyphen (d ∷ bytes)) (dash_dash k (input (d ∷ bytes)) ∙ dashed k d bytes utf8 g ∙ sym (body_dash (k ++ 45 ∷ []) (input (d ∷ bytes))))
 
 -- ---- stretches of a comment
@@ -181,14 +181,14 @@ body_keeps kept c text h =
 abbrev pub body : Reader
 body kept passing text = read (CommentBody kept) passing text
 
-body_piece : (kept xs ys : List ℕ) → IsUtf8 xs → Lacks 45 xs → BeginsWith 45 ys → body kept 0 (input (xs ++ ys)) ≡ body (kept ++ map replace_null (input xs)) 0 (input ys)
+body_piece : (kept xs ys : List ℕ) → IsUtf8 xs → LacksByte 45 xs → BeginsWithByte 45 ys → body kept 0 (input (xs ++ ys)) ≡ body (kept ++ map replace_null (input xs)) 0 (input ys)
 body_piece kept xs ys utf8 lacks begins =
     ap (body kept 0) (input-append xs ys utf8 (begins_marked 45 (omega arith) (λ (e : 45 ≡ 10). omega arith) ys begins))
     ∙ run body is_undashed replace_null body_keeps kept (input xs) (input ys) (all-input is_undashed (λ c big. grind (arith, nat_tests)) (λ _. refl) xs utf8 lacks)
 
 -- a hyphen with which the comment goes on
 abbrev pub GoesOn : List ℕ → Type 0
-GoesOn text = closing text ≡ 0
+GoesOn text = closing_len text ≡ 0
 
 body_joins : (xs ys : List ℕ) → map replace_null (xs ++ 45 ∷ ys) ≡ map replace_null xs ++ 45 ∷ map replace_null ys
 body_joins xs ys = map-append replace_null xs (45 ∷ ys)
@@ -203,7 +203,7 @@ body_marks = record {
   joins = body_joins;
 }
 
--- ---- where a comment ends
+-- ---- the end of a comment
 
 body_nil : (k : List ℕ) → read (CommentBody k) 0 [] ≡ Comment k ∷ []
 unfolding read tokens_at_end
@@ -217,7 +217,7 @@ data_nil : read Data 0 [] ≡ []
 unfolding read tokens_at_end
 data_nil = refl
 
--- What is left of a text after its first characters, so many that no length is counted in the rest.
+-- The rest of a text after its first characters.
 abbrev Closes : List ℕ → List ℕ → ℕ → Type 0
 Closes k text n = read (CommentBody k) 0 (input text) ≡ Comment k ∷ read Data 0 (input (drop n text))
 
@@ -245,7 +245,7 @@ pub record Closed (k text : List ℕ) (n : ℕ) : Type 0 where
   pub utf8 : IsUtf8 (drop n text)
   pub within : n ≤ length text
 
-hyphens : (c d : ℕ) (text : List ℕ) → 0 < closing (c ∷ d ∷ text) → (c ≡ 45) × (d ≡ 45)
+hyphens : (c d : ℕ) (text : List ℕ) → 0 < closing_len (c ∷ d ∷ text) → (c ≡ 45) × (d ≡ 45)
 hyphens c d text some = elim (cases_Bool (c == 45)) [
   | inl first ↦ elim (cases_Bool (d == 45)) [
     | inl second ↦ (eqb-true c 45 first, eqb-true d 45 second)
@@ -257,7 +257,7 @@ hyphens c d text some = elim (cases_Bool (c == 45)) [
 past : (b : ℕ) (text : List ℕ) → b < 128 → IsUtf8 (b ∷ text) → IsUtf8 text
 past b text small utf8 = utf8_tail b text small utf8
 
-closed_three : (k : List ℕ) (e : ℕ) → IsUtf8 (45 ∷ 45 ∷ e ∷ []) → 0 < after_hyphens (e ∷ []) → Closed k (45 ∷ 45 ∷ e ∷ []) (after_hyphens (e ∷ []))
+closed_three : (k : List ℕ) (e : ℕ) → IsUtf8 (45 ∷ 45 ∷ e ∷ []) → 0 < closing_len_after_hyphens (e ∷ []) → Closed k (45 ∷ 45 ∷ e ∷ []) (closing_len_after_hyphens (e ∷ []))
 closed_three k e utf8 some = elim (cases_Bool (e == 62)) [
   | inl close ↦
       let is : e ≡ 62 = eqb-true e 62 close in
@@ -270,7 +270,7 @@ closed_three k e utf8 some = elim (cases_Bool (e == 62)) [
   ]
 ]
 
-closed_four : (k : List ℕ) (e f : ℕ) (text : List ℕ) → IsUtf8 (45 ∷ 45 ∷ e ∷ f ∷ text) → 0 < after_hyphens (e ∷ f ∷ text) → Closed k (45 ∷ 45 ∷ e ∷ f ∷ text) (after_hyphens (e ∷ f ∷ text))
+closed_four : (k : List ℕ) (e f : ℕ) (text : List ℕ) → IsUtf8 (45 ∷ 45 ∷ e ∷ f ∷ text) → 0 < closing_len_after_hyphens (e ∷ f ∷ text) → Closed k (45 ∷ 45 ∷ e ∷ f ∷ text) (closing_len_after_hyphens (e ∷ f ∷ text))
 closed_four k e f text utf8 some = elim (cases_Bool (e == 62)) [
   | inl close ↦
       let is : e ≡ 62 = eqb-true e 62 close in
@@ -292,7 +292,7 @@ closed_four k e f text utf8 some = elim (cases_Bool (e == 62)) [
 ]
 
 -- the characters that `closing` counts end the comment
-pub closed : (k text : List ℕ) → IsUtf8 text → (0 < length text → 0 < closing text) → Closed k text (closing text)
+pub closed : (k text : List ℕ) → IsUtf8 text → (0 < length text → 0 < closing_len text) → Closed k text (closing_len text)
 closed k [] utf8 some = record { closes = rw (input-nil, data_nil) (body_nil k); utf8 = utf8; within = omega arith }
 closed k (c ∷ []) utf8 some = elim (cases_Bool (c == 45)) [
   | inl dash ↦
@@ -310,7 +310,7 @@ closed k (c ∷ d ∷ e ∷ f ∷ text) utf8 some =
     let both = hyphens c d (e ∷ f ∷ text) (some (omega arith)) in
     rw (both.0, both.1) (closed_four k e f text (rw (both.0, both.1) at utf8) (rw (both.0, both.1) at (some (omega arith))))
 
--- ---- where a comment begins
+-- ---- the beginning of a comment
 
 start_close : (k text : List ℕ) → read (CommentStart k) 0 (62 ∷ text) ≡ Comment k ∷ read Data 0 text
 unfolding read step look_again look
@@ -368,8 +368,8 @@ begun_dash k d text utf8 h =
       | inr other ↦ start_dash_other k f.char f.rest other w ∙ sym (dash_other k f.char f.rest other)
     ])
 
--- a comment that does not end where it begins
-pub begun : (k text : List ℕ) → IsUtf8 text → abrupt text ≡ 0 → read (CommentStart k) 0 (input text) ≡ read (CommentBody k) 0 (input text)
+-- a comment that does not end right at its beginning
+pub begun : (k text : List ℕ) → IsUtf8 text → abrupt_len text ≡ 0 → read (CommentStart k) 0 (input text) ≡ read (CommentBody k) 0 (input text)
 begun k [] utf8 h = rw input-nil (start_nil k)
 begun k (b ∷ []) utf8 h =
     let unclosed : (b == 62) ≡ false = grind (arith, nat_tests) in
@@ -405,7 +405,7 @@ abrupt_dash k text utf8 = record {
   within = omega arith;
 }
 
-pub abruptly : (k text : List ℕ) → IsUtf8 text → 0 < abrupt text → Abrupt k text (abrupt text)
+pub abruptly : (k text : List ℕ) → IsUtf8 text → 0 < abrupt_len text → Abrupt k text (abrupt_len text)
 abruptly k [] utf8 some = absurd (omega arith)
 abruptly k (b ∷ []) utf8 some = elim (cases_Bool (b == 62)) [
   | inl close ↦
@@ -462,22 +462,22 @@ unfolding read tokens_at_end
 no_close k = (refl, refl)
 
 -- what follows the text of such a comment
-ended_bogus : (k text : List ℕ) (len end : ℕ) → EndsBy 62 text len end → read (Bogus k) 0 (input (drop len text)) ≡ Comment k ∷ read Data 0 (input (drop end text))
+ended_bogus : (k text : List ℕ) (len end : ℕ) → IsCutAt 62 text len end → read (Bogus k) 0 (input (drop len text)) ≡ Comment k ∷ read Data 0 (input (drop end text))
 ended_bogus k text len end (inl e) = rw (e, greater (drop end text)) (close_bogus k (input (drop end text)))
 ended_bogus k text len end (inr e) = rw (e.0, e.1, input-nil, data_nil) (no_close k).0
 
-ended_doctype : (text : List ℕ) (len end : ℕ) → EndsBy 62 text len end → read DoctypeBody 0 (input (drop len text)) ≡ Doctype ∷ read Data 0 (input (drop end text))
+ended_doctype : (text : List ℕ) (len end : ℕ) → IsCutAt 62 text len end → read DoctypeBody 0 (input (drop len text)) ≡ Doctype ∷ read Data 0 (input (drop end text))
 ended_doctype text len end (inl e) = rw (e, greater (drop end text)) (close_doctype (input (drop end text)))
 ended_doctype text len end (inr e) = rw (e.0, e.1, input-nil, data_nil) (no_close []).1
 
-close_marked : (text : List ℕ) (len end : ℕ) → EndsBy 62 text len end → IsMarked (drop len text)
+close_marked : (text : List ℕ) (len end : ℕ) → IsCutAt 62 text len end → IsMarked (drop len text)
 close_marked text len end (inl e) = rw e (begins_marked 62 (omega arith) (λ (e : 62 ≡ 10). omega arith) (62 ∷ drop end text) refl)
 close_marked text len end (inr e) = rw e.0 tt
 
-all_unclosed : (bytes : List ℕ) → IsUtf8 bytes → Lacks 62 bytes → list_all is_unclosed (input bytes) ≡ true
+all_unclosed : (bytes : List ℕ) → IsUtf8 bytes → LacksByte 62 bytes → list_all is_unclosed (input bytes) ≡ true
 all_unclosed bytes utf8 lacks = all-input is_unclosed (λ c big. grind (arith, nat_tests)) (λ _. refl) bytes utf8 lacks
 
-pub bogus_ends : (text : List ℕ) (len end : ℕ) → IsUtf8 text → IsCharBoundary text len → Lacks 62 (take len text) → EndsBy 62 text len end
+pub bogus_ends : (text : List ℕ) (len end : ℕ) → IsUtf8 text → IsCharBoundary text len → LacksByte 62 (take len text) → IsCutAt 62 text len end
     → read (Bogus []) 0 (input text) ≡ Comment (map replace_null (input (take len text))) ∷ read Data 0 (input (drop end text))
 bogus_ends text len end utf8 cut lacks ends =
     let front = IsUtf8-take text len utf8 cut in
@@ -485,7 +485,7 @@ bogus_ends text len end utf8 cut lacks ends =
     ∙ run bogus is_unclosed replace_null bogus_keeps [] (input (take len text)) (input (drop len text)) (all_unclosed (take len text) front lacks)
     ∙ ended_bogus (map replace_null (input (take len text))) text len end ends
 
-pub doctype_ends : (text : List ℕ) (len end : ℕ) → IsUtf8 text → IsCharBoundary text len → Lacks 62 (take len text) → EndsBy 62 text len end
+pub doctype_ends : (text : List ℕ) (len end : ℕ) → IsUtf8 text → IsCharBoundary text len → LacksByte 62 (take len text) → IsCutAt 62 text len end
     → read DoctypeBody 0 (input text) ≡ Doctype ∷ read Data 0 (input (drop end text))
 doctype_ends text len end utf8 cut lacks ends =
     let front = IsUtf8-take text len utf8 cut in
@@ -496,22 +496,22 @@ doctype_ends text len end utf8 cut lacks ends =
 -- ---- by places
 
 -- a comment of which the text ends here
-pub body_closes : (all : List Token) (text : List ℕ) (at : ℕ) → IsUtf8 text → IsCharBoundary text at → (at < length text → 0 < closing (drop at text))
+pub body_closes : (all : List Token) (text : List ℕ) (at : ℕ) → IsUtf8 text → IsCharBoundary text at → (at < length text → 0 < closing_len (drop at text))
     → all ≡ read (CommentBody (map replace_null (input (take at text)))) 0 (input (drop at text))
-    → all ≡ Comment (map replace_null (input (take at text))) ∷ read Data 0 (input (drop (at + closing (drop at text)) text))
+    → all ≡ Comment (map replace_null (input (take at text))) ∷ read Data 0 (input (drop (at + closing_len (drop at text)) text))
 body_closes all text at utf8 cut some held =
     let c = closed (map replace_null (input (take at text))) (drop at text) (IsUtf8-drop text at utf8 cut) (λ lt. some (omega (arith, lt, length-drop at text))) in
-    held ∙ c.closes ∙ ap (λ (l : List ℕ). Comment (map replace_null (input (take at text))) ∷ read Data 0 (input l)) (drop-drop (closing (drop at text)) at text)
+    held ∙ c.closes ∙ ap (λ (l : List ℕ). Comment (map replace_null (input (take at text))) ∷ read Data 0 (input l)) (drop-drop (closing_len (drop at text)) at text)
 
-pub body_boundary : (text : List ℕ) (at : ℕ) → IsUtf8 text → IsCharBoundary text at → (at < length text → 0 < closing (drop at text)) → IsCharBoundary text (at + closing (drop at text))
+pub body_boundary : (text : List ℕ) (at : ℕ) → IsUtf8 text → IsCharBoundary text at → (at < length text → 0 < closing_len (drop at text)) → IsCharBoundary text (at + closing_len (drop at text))
 body_boundary text at utf8 cut some =
     let c = closed [] (drop at text) (IsUtf8-drop text at utf8 cut) (λ lt. some (omega (arith, lt, length-drop at text))) in
-    IsCharBoundary-from_drop text (at + closing (drop at text)) (omega (arith, c.within, length-drop at text, cut.0)) (subst IsUtf8 (drop-drop (closing (drop at text)) at text) c.utf8)
+    IsCharBoundary-from_drop text (at + closing_len (drop at text)) (omega (arith, c.within, length-drop at text, cut.0)) (subst IsUtf8 (drop-drop (closing_len (drop at text)) at text) c.utf8)
 
-pub abrupt_boundary : (text : List ℕ) → IsUtf8 text → 0 < abrupt text → IsCharBoundary text (abrupt text)
+pub abrupt_boundary : (text : List ℕ) → IsUtf8 text → 0 < abrupt_len text → IsCharBoundary text (abrupt_len text)
 abrupt_boundary text utf8 some =
     let a = abruptly [] text utf8 some in
-    IsCharBoundary-from_drop text (abrupt text) a.within a.utf8
+    IsCharBoundary-from_drop text (abrupt_len text) a.within a.utf8
 
-pub abrupt_closes : (text : List ℕ) → IsUtf8 text → 0 < abrupt text → read (CommentStart []) 0 (input text) ≡ Comment (map replace_null (input [])) ∷ read Data 0 (input (drop (abrupt text) text))
+pub abrupt_closes : (text : List ℕ) → IsUtf8 text → 0 < abrupt_len text → read (CommentStart []) 0 (input text) ≡ Comment (map replace_null (input [])) ∷ read Data 0 (input (drop (abrupt_len text) text))
 abrupt_closes text utf8 some = rw input-nil (abruptly [] text utf8 some).closes

@@ -1,6 +1,6 @@
 -- End tags of an element's content, computed at some texts.
 use Rattle.std.proofs.Common.{◌≡◌, ℕ, Bool, true, false, List, [], ◌∷◌, ◌++◌, map, codes, refl}
-use Rattle.html_tokens.specs.Contents.{closes}
+use Rattle.html_tokens.specs.Contents.{begins_end_tag}
 use Rattle.html_tokens.specs.Scripts.{ends_script}
 use Rattle.html_tokens.specs.declared.mode.Content.TheVariants as content
 use Rattle.html_tokens.specs.declared.script.Phase.{Phase}
@@ -24,7 +24,7 @@ title_table = (codes "</title>a", true)
     ∷ (codes "a</title>", false)
     ∷ []
 
-title : map (λ (r : List ℕ × Bool). closes content.Title r.0) title_table ≡ map (λ (r : List ℕ × Bool). r.1) title_table
+title : map (λ (r : List ℕ × Bool). begins_end_tag content.Title r.0) title_table ≡ map (λ (r : List ℕ × Bool). r.1) title_table
 title = refl
 
 -- whether a script ends before `</script>` in each phase

@@ -7,7 +7,7 @@ use Rattle.html_references.specs.Input.{decode_references}
 use Rattle.html_tokens.proofs.Runs.{Reader}
 use Rattle.html_references.proofs.Stops.{Stops, reference-stop, reference-len}
 
--- A reader that keeps what a reference stands for, passes over its characters, and keeps every other character that passes the test.
+-- A reader that keeps the characters of a reference, skips its spelling, and keeps every other character that passes the test.
 pub record Decodes (F : Reader) (in_attribute : Bool) (p : ℕ → Bool) (plain : ℕ → ℕ) : Type 0 where
   pub keeps : (kept : List ℕ) (c : ℕ) (text : List ℕ) → p c ≡ true → (c == 0x26) ≡ false → F kept 0 (c ∷ text) ≡ F (kept ++ plain c ∷ []) 0 text
   pub refers : (kept text : List ℕ) (c : ℕ) → (c == 0x26) ≡ true → F kept 0 (c ∷ text) ≡ F (kept ++ (reference in_attribute text).chars) (reference in_attribute text).len text

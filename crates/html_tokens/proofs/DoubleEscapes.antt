@@ -16,7 +16,7 @@ use Rattle.html_syntax.specs.States.Action.{ReconsumeIn}
 use Rattle.html_syntax.specs.Rows.{double_escape_state}
 use Rattle.html_syntax.specs.Tokenizer.{look, look_again, step, read, tokens_at_end, chars}
 use Rattle.html_references.specs.Input.{input}
-use Rattle.html_tokens.specs.Contents.{ends_name, named}
+use Rattle.html_tokens.specs.Contents.{ends_name, begins_with_name}
 use Rattle.html_tokens.proofs.Runs.{reconsumed}
 use Rattle.html_references.proofs.Stretches.{input-cons, input-nil, utf8_tail}
 use Rattle.html_tokens.proofs.EndTags.{Fails, fails_at, fails_on, fails_here, is_unended, Unended, unended, is_unended_from, first_unended, first_unnamed, no_letter, letter_small, input-letter, lowered_letter, return_first}
@@ -25,7 +25,7 @@ use Rattle.html_tokens.proofs.EndTags.{Fails, fails_at, fails_on, fails_here, is
 abbrev pub is_end : ℕ → Bool
 is_end c = is_space c || c == 47 || c == 62
 
--- A state that reads letters as text: it goes to the first state where they are `script`, else to the second.
+-- A state that reads letters as text: it goes to the first state if they are `script`, else to the second.
 pub record Letters (L : List ℕ → State) (goal back : State) : Type 0 where
   pub letter : (letters : List ℕ) (c : ℕ) (text : List ℕ) → is_letter c ≡ true → read (L letters) 0 (c ∷ text) ≡ Char (replace_null c) ∷ read (L (letters ++ c ∷ [])) 0 text
   pub ended : (letters : List ℕ) (c : ℕ) (text : List ℕ) → is_letter c ≡ false → is_end c ≡ true → read (L letters) 0 (c ∷ text) ≡ Char (replace_null c) ∷ read (double_escape_state goal back letters) 0 text
@@ -99,7 +99,7 @@ ends last = record {
   back_keeps = double_keeps last;
 }
 
--- ---- where the letters are no `script`
+-- ---- letters other than `script`
 
 plain_letter : (b : ℕ) → is_letter b ≡ true → ((b == 60) ≡ false) × ((b == 45) ≡ false)
 plain_letter b h = (grind (arith, nat_tests), grind (arith, nat_tests))
@@ -146,10 +146,10 @@ doubles_not L goal back l letters (b ∷ bytes) utf8 h = elim (cases_Bool (is_le
 ]
 
 -- other letters than `script` leave the state as it was
-pub no_double : (L : List ℕ → State) (goal back : State) → Letters L goal back → (bytes : List ℕ) → IsUtf8 bytes → named script bytes ≡ false → read (L []) 0 (input bytes) ≡ read back 0 (input bytes)
+pub no_double : (L : List ℕ → State) (goal back : State) → Letters L goal back → (bytes : List ℕ) → IsUtf8 bytes → begins_with_name script bytes ≡ false → read (L []) 0 (input bytes) ≡ read back 0 (input bytes)
 no_double L goal back l bytes utf8 h = doubles_not L goal back l [] bytes utf8 (fails_at script bytes h)
 
--- ---- where they are
+-- ---- the letters `script`
 
 pub record Ends (bytes : List ℕ) : Type 0 where
   pub char : ℕ
@@ -188,7 +188,7 @@ doubled_on : (L : List ℕ → State) (goal back : State) → Letters L goal bac
 doubled_on L goal back l letters n b bytes is h =
     rw (input-letter b bytes is, input-letter b (take n bytes) is) (l.letter letters b (input bytes) is ∙ ap (λ (t : List Token). Char (replace_null b) ∷ t) h)
 
-doubles : (L : List ℕ → State) (goal back : State) → Letters L goal back → (letters w bytes : List ℕ) → list_all is_letter w ≡ true → script ≡ map lower letters ++ w → named w bytes ≡ true → Doubles L goal letters (length w) bytes
+doubles : (L : List ℕ → State) (goal back : State) → Letters L goal back → (letters w bytes : List ℕ) → list_all is_letter w ≡ true → script ≡ map lower letters ++ w → begins_with_name w bytes ≡ true → Doubles L goal letters (length w) bytes
 doubles L goal back l letters [] [] all e h = absurd cc
 doubles L goal back l letters [] (b ∷ bytes) all e h =
     let g : script ≡ map lower letters = e ∙ append-nil (map lower letters) in
@@ -206,5 +206,5 @@ doubles L goal back l letters (x ∷ w) (b ∷ bytes) all e h =
     (doubles L goal back l (letters ++ b ∷ []) w bytes letters_all.1 split (and_from (begins_with w (map lower bytes)) (ends_name (drop (length w) bytes)) parts.1 both.1))
 
 -- the letters `script`, before what ends a name
-pub double : (L : List ℕ → State) (goal back : State) → Letters L goal back → (bytes : List ℕ) → named script bytes ≡ true → read (L []) 0 (input bytes) ≡ chars (map replace_null (input (take 6 bytes))) ++ read goal 0 (input (drop 6 bytes))
+pub double : (L : List ℕ → State) (goal back : State) → Letters L goal back → (bytes : List ℕ) → begins_with_name script bytes ≡ true → read (L []) 0 (input bytes) ≡ chars (map replace_null (input (take 6 bytes))) ++ read goal 0 (input (drop 6 bytes))
 double L goal back l bytes h = doubles L goal back l [] script bytes refl refl h

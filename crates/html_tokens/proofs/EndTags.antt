@@ -1,4 +1,4 @@
--- End tags in the content of an element: what is read where one stands, and where one only seems to.
+-- End tags in the content of an element, and texts that only seem to be one.
 use Rattle.std.proofs.Common.{◌≡◌, ◌≢◌, nat_lt, ℕ, suc, ◌<◌, Bool, true, false, not, ◌&&◌, ◌||◌, ◌==◌, List, [], ◌∷◌, ◌++◌, length, map, drop, refl, sym, ap, subst, ◌∙◌, append_assoc, append-nil, arith, inl, inr, IsUtf8}
 use Rattle.std.proofs.lemmas.Bool.{cases_Bool, and_parts, eqb-true, both_ways, not-true, and_from}
 use Rattle.std.proofs.lemmas.Bool.Decides.{nat_tests}
@@ -16,7 +16,7 @@ use Rattle.html_syntax.specs.States.Action.{ReconsumeIn}
 use Rattle.html_syntax.specs.Tokenizer.{look, look_again, step, read, tokens_at_end, chars, normalize_newlines}
 use Rattle.std.specs.Str.{chars as text_chars}
 use Rattle.html_references.specs.Input.{input}
-use Rattle.html_tokens.specs.Contents.{ends_name, named}
+use Rattle.html_tokens.specs.Contents.{ends_name, begins_with_name}
 use Rattle.html_tokens.proofs.Runs.{emits-more, reconsumed}
 use Rattle.html_references.proofs.Stretches.{PassesWide, First, input-first, input-cons, input-nil, utf8_tail}
 
@@ -36,7 +36,7 @@ letter_shown b h =
 pub input-letter : (b : ℕ) (bytes : List ℕ) → is_letter b ≡ true → input (b ∷ bytes) ≡ b ∷ input bytes
 input-letter b bytes h = input-cons b bytes (letter_small b h) (letter_no_return b h)
 
--- ---- a character that stands for itself in each kind of content
+-- ---- a character that is read as itself in each kind of content
 
 pub raw_keeps : (k : RawTextKind) (last : List ℕ) (c : ℕ) (text : List ℕ) → (c == 38) ≡ false → (c == 60) ≡ false → (c == 45) ≡ false → read (Raw k last) 0 (c ∷ text) ≡ Char (replace_null c) ∷ read (Raw k last) 0 text
 unfolding read step look_again look
@@ -83,7 +83,7 @@ is_unended c = not (is_letter c || is_space c || c == 13 || c == 47 || c == 62)
 
 -- Whatever is left of the last start tag's name after these letters, the text does not begin with it.
 pub Fails : List ℕ → List ℕ → List ℕ → Type 0
-Fails last letters bytes = (w : List ℕ) → last ≡ map lower letters ++ w → named w bytes ≡ false
+Fails last letters bytes = (w : List ℕ) → last ≡ map lower letters ++ w → begins_with_name w bytes ≡ false
 
 pub fails_on : (last letters : List ℕ) (b : ℕ) (bytes : List ℕ) → Fails last letters (b ∷ bytes) → Fails last (letters ++ b ∷ []) bytes
 unfolding Fails
@@ -93,7 +93,7 @@ fails_on last letters b bytes h w e =
     let itself : (lower b == lower b) ≡ true = grind (arith, nat_tests) in
     (rw itself at no)
 
--- a character that is no letter, where the name is another
+-- a character that is no letter, if the name is another
 pub record Unended (c : ℕ) : Type 0 where
   pub unnamed : is_letter c ≡ false
   pub unspaced : is_space c ≡ false
@@ -140,7 +140,7 @@ pub no_letter : (c : ℕ) → is_unnamed c ≡ true → is_letter c ≡ false
 unfolding is_unnamed
 no_letter c h = not-true (is_letter c) h
 
--- What is read where the name of an end tag goes on with this text, which is text itself.
+-- The tokens of a text that goes on with the name of an end tag, and is text itself.
 abbrev IsText : RawTextKind → List ℕ → List ℕ → List ℕ → Type 0
 IsText k last letters bytes = read (RawEndName k last letters) 0 (input bytes) ≡ chars (60 ∷ 47 ∷ letters) ++ read (Raw k last) 0 (input bytes)
 
@@ -182,9 +182,9 @@ end_fails k last letters (b ∷ bytes) utf8 h = elim (cases_Bool (is_letter b)) 
 
 -- ---- a `</` that ends nothing
 
-pub fails_at : (last bytes : List ℕ) → named (60 ∷ 47 ∷ last) (60 ∷ 47 ∷ bytes) ≡ false → Fails last [] bytes
+pub fails_at : (last bytes : List ℕ) → begins_with_name (60 ∷ 47 ∷ last) (60 ∷ 47 ∷ bytes) ≡ false → Fails last [] bytes
 unfolding Fails
-fails_at last bytes h w e = subst (λ (l : List ℕ). named l bytes ≡ false) e h
+fails_at last bytes h w e = subst (λ (l : List ℕ). begins_with_name l bytes ≡ false) e h
 
 open_nil : (k : RawTextKind) (last : List ℕ) → read (RawEndOpen k last) 0 [] ≡ chars (60 ∷ 47 ∷ []) ++ read (Raw k last) 0 []
 unfolding read tokens_at_end
@@ -201,7 +201,7 @@ look_open_other k last c text h = rw h refl
 abbrev IsOpenText : RawTextKind → List ℕ → List ℕ → Type 0
 IsOpenText k last bytes = read (RawEndOpen k last) 0 (input bytes) ≡ chars (60 ∷ 47 ∷ []) ++ read (Raw k last) 0 (input bytes)
 
-pub open_fails : (k : RawTextKind) (last bytes : List ℕ) → IsUtf8 bytes → named (60 ∷ 47 ∷ last) (60 ∷ 47 ∷ bytes) ≡ false → IsOpenText k last bytes
+pub open_fails : (k : RawTextKind) (last bytes : List ℕ) → IsUtf8 bytes → begins_with_name (60 ∷ 47 ∷ last) (60 ∷ 47 ∷ bytes) ≡ false → IsOpenText k last bytes
 open_fails k last [] utf8 h = rw input-nil (open_nil k last)
 open_fails k last (b ∷ bytes) utf8 h = elim (cases_Bool (is_letter b)) [
   | inl is ↦
@@ -215,7 +215,7 @@ open_fails k last (b ∷ bytes) utf8 h = elim (cases_Bool (is_letter b)) [
 ]
 
 -- a `</` that ends nothing is text
-pub solidus_fails : (k : RawTextKind) (last bytes : List ℕ) → IsUtf8 bytes → named (60 ∷ 47 ∷ last) (60 ∷ 47 ∷ bytes) ≡ false → read (RawEndOpen k last) 0 (input bytes) ≡ Char 60 ∷ read (Raw k last) 0 (47 ∷ input bytes)
+pub solidus_fails : (k : RawTextKind) (last bytes : List ℕ) → IsUtf8 bytes → begins_with_name (60 ∷ 47 ∷ last) (60 ∷ 47 ∷ bytes) ≡ false → read (RawEndOpen k last) 0 (input bytes) ≡ Char 60 ∷ read (Raw k last) 0 (47 ∷ input bytes)
 solidus_fails k last bytes utf8 h = open_fails k last bytes utf8 h ∙ ap (λ (l : List Token). Char 60 ∷ l) (sym (solidus_kept k last (input bytes)))
 
 -- ---- an end tag
@@ -299,7 +299,7 @@ lowered_letter x b h e =
     let is : x ≡ lower b = eqb-true x (lower b) e in
     grind (arith, nat_tests)
 
-name_read : (k : RawTextKind) (last letters w bytes : List ℕ) → list_all is_letter w ≡ true → last ≡ map lower letters ++ w → named w bytes ≡ true → IsName k last letters bytes
+name_read : (k : RawTextKind) (last letters w bytes : List ℕ) → list_all is_letter w ≡ true → last ≡ map lower letters ++ w → begins_with_name w bytes ≡ true → IsName k last letters bytes
 name_read k last letters [] [] all e h = absurd cc
 name_read k last letters [] (b ∷ bytes) all e h =
     let g : last ≡ map lower letters = e ∙ append-nil (map lower letters) in
@@ -325,7 +325,7 @@ unfolding look
 end_letter c text h = rw h refl
 
 -- after `</`
-pub end_read : (k : RawTextKind) (last bytes : List ℕ) → IsWord last → named (60 ∷ 47 ∷ last) (60 ∷ 47 ∷ bytes) ≡ true → read (RawEndOpen k last) 0 (input bytes) ≡ read EndTagOpen 0 (input bytes)
+pub end_read : (k : RawTextKind) (last bytes : List ℕ) → IsWord last → begins_with_name (60 ∷ 47 ∷ last) (60 ∷ 47 ∷ bytes) ≡ true → read (RawEndOpen k last) 0 (input bytes) ≡ read EndTagOpen 0 (input bytes)
 end_read k [] bytes word h = absurd word
 end_read k (x ∷ w) [] word h = absurd cc
 end_read k (x ∷ w) (b ∷ bytes) word h =
@@ -355,7 +355,7 @@ unlowered x b small e h =
     eqb-true b x (grind (arith, nat_tests))
 
 -- the two characters that open an end tag
-pub opens : (last bytes : List ℕ) → named (60 ∷ 47 ∷ last) bytes ≡ true → (rest : List ℕ) × (bytes ≡ 60 ∷ 47 ∷ rest)
+pub opens : (last bytes : List ℕ) → begins_with_name (60 ∷ 47 ∷ last) bytes ≡ true → (rest : List ℕ) × (bytes ≡ 60 ∷ 47 ∷ rest)
 opens last [] h = absurd cc
 opens last (b ∷ []) h =
     let both = and_parts (60 == lower b && false) (ends_name (drop (suc (length last)) [])) h in
@@ -380,13 +380,13 @@ raw_opened Script last text = refl
 raw_opened Escaped last text = refl
 
 -- an end tag of the last start tag's name is read as between other tags
-pub closed : (k : RawTextKind) (last bytes : List ℕ) → IsWord last → named (60 ∷ 47 ∷ last) bytes ≡ true → read (Raw k last) 0 (input bytes) ≡ read Data 0 (input bytes)
+pub closed : (k : RawTextKind) (last bytes : List ℕ) → IsWord last → begins_with_name (60 ∷ 47 ∷ last) bytes ≡ true → read (Raw k last) 0 (input bytes) ≡ read Data 0 (input bytes)
 closed k last bytes word h =
     let o = opens last bytes h in
     let front : input bytes ≡ 60 ∷ 47 ∷ input o.0 = ap input o.1 ∙ input-less (47 ∷ o.0) ∙ ap (λ (l : List ℕ). 60 ∷ l) (input-solidus o.0) in
-    rw front (raw_opened k last (input o.0) ∙ end_read k last o.0 word (subst (λ (l : List ℕ). named (60 ∷ 47 ∷ last) l ≡ true) o.1 h) ∙ sym (data_opened (input o.0)))
+    rw front (raw_opened k last (input o.0) ∙ end_read k last o.0 word (subst (λ (l : List ℕ). begins_with_name (60 ∷ 47 ∷ last) l ≡ true) o.1 h) ∙ sym (data_opened (input o.0)))
 
 -- a `</` that opens no such end tag is text
-pub raw_solidus : (k : RawTextKind) (last bytes : List ℕ) → IsUtf8 bytes → named (60 ∷ 47 ∷ last) (60 ∷ 47 ∷ bytes) ≡ false → read (Raw k last) 0 (input (60 ∷ 47 ∷ bytes)) ≡ Char 60 ∷ read (Raw k last) 0 (input (47 ∷ bytes))
+pub raw_solidus : (k : RawTextKind) (last bytes : List ℕ) → IsUtf8 bytes → begins_with_name (60 ∷ 47 ∷ last) (60 ∷ 47 ∷ bytes) ≡ false → read (Raw k last) 0 (input (60 ∷ 47 ∷ bytes)) ≡ Char 60 ∷ read (Raw k last) 0 (input (47 ∷ bytes))
 raw_solidus k last bytes utf8 h =
     rw (input-less (47 ∷ bytes), input-solidus bytes) (raw_opened k last (input bytes) ∙ solidus_fails k last bytes utf8 h)

@@ -18,6 +18,7 @@ pub mod Words
 pub mod CommentRuns
 pub mod Marks
 pub mod OpeningRuns
+pub mod SpanTokens
 pub mod StepRuns
 pub mod TagTokens
 pub mod Wholes

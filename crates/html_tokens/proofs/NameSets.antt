@@ -11,8 +11,8 @@ use Rattle.std.specs.Str.{bytes_eq}
 use Rattle.std.specs.String.{string_cmp, string_bytes}
 use Rattle.std.specs.BTreeSet.{UpdatesBy, IsEmpty, contains_text}
 use Rattle.html_tokens.specs.declared.name_set.NameSet.{NameSet}
-use Rattle.html_tokens.specs.NameSets.{has, has_number}
-use Rattle.html_tokens.specs.PackedNames.{packed, is_short}
+use Rattle.html_tokens.specs.NameSets.{contains_name, contains_number}
+use Rattle.html_tokens.specs.PackedNames.{pack, is_short}
 use Rattle.html_tokens.proofs.PackedNames.{AreBytes, packed_apart}
 
 bytes_pass : (xs : List ℕ) → ((i : ℕ) → get_or xs i 0 < 256) → list_all (λ b. nat_lt b 256) xs ≡ true
@@ -38,11 +38,11 @@ short_bytes : (name : List ℕ) → is_short name ≡ true → AreBytes name
 unfolding is_short
 short_bytes name e = bytes_passed name (and_parts (nat_le (length name) 15) (list_all (λ b. nat_lt b 256) name) e).1
 
--- two short names are the same where their numbers are
-same_number : (xs ys : List ℕ) → is_short xs ≡ true → is_short ys ≡ true → (packed xs == packed ys) ≡ bytes_eq xs ys
+-- two short names are equal if their numbers are
+same_number : (xs ys : List ℕ) → is_short xs ≡ true → is_short ys ≡ true → (pack xs == pack ys) ≡ bytes_eq xs ys
 same_number xs ys p q =
-    same_from_decides (packed xs == packed ys) (bytes_eq xs ys)
-    (Decides-like (packed xs == packed ys) (packed_apart xs ys (short_bytes xs p) (short_bytes ys q)) (λ e. ap packed e) (Decides-eqb (packed xs) (packed ys)))
+    same_from_decides (pack xs == pack ys) (bytes_eq xs ys)
+    (Decides-like (pack xs == pack ys) (packed_apart xs ys (short_bytes xs p) (short_bytes ys q)) (λ e. ap pack e) (Decides-eqb (pack xs) (pack ys)))
     (bytes_eq-Decides xs ys)
 
 -- a short name is none of the others
@@ -55,16 +55,16 @@ cond_or true b = refl
 cond_or false b = refl
 
 -- whether a set has a short name
-pub has_short : (names : NameSet) (q : List ℕ) → is_short q ≡ true → has names q ≡ has_number names (packed q)
-unfolding has
-has_short names q e = ap (λ (b : Bool). cond b (has_number names (packed q)) (contains_text names.long q)) e
+pub has_short : (names : NameSet) (q : List ℕ) → is_short q ≡ true → contains_name names q ≡ contains_number names (pack q)
+unfolding contains_name
+has_short names q e = ap (λ (b : Bool). cond b (contains_number names (pack q)) (contains_text names.long q)) e
 
 -- and another
-pub has_long : (names : NameSet) (q : List ℕ) → is_short q ≡ false → has names q ≡ contains_text names.long q
-unfolding has
-has_long names q e = ap (λ (b : Bool). cond b (has_number names (packed q)) (contains_text names.long q)) e
+pub has_long : (names : NameSet) (q : List ℕ) → is_short q ≡ false → contains_name names q ≡ contains_text names.long q
+unfolding contains_name
+has_long names q e = ap (λ (b : Bool). cond b (contains_number names (pack q)) (contains_text names.long q)) e
 
-pub has_none : (names : NameSet) → names.rising.items ≡ [] → IsEmpty names.short → IsEmpty names.long → (q : List ℕ) → has names q ≡ false
+pub has_none : (names : NameSet) → names.rising.items ≡ [] → IsEmpty names.short → IsEmpty names.long → (q : List ℕ) → contains_name names q ≡ false
 has_none names rising short long q = elim (cases_Bool (is_short q)) [
   | inl here ↦ has_short names q here ∙ rw (rising, short) refl
   | inr away ↦ has_long names q away ∙ rw long refl
@@ -72,36 +72,36 @@ has_none names rising short long q = elim (cases_Bool (is_short q)) [
 
 -- one short name more
 pub has_more_short : (old new : NameSet) (name : List ℕ) → is_short name ≡ true → new.long ≡ old.long
-    → ((n : ℕ) → has_number new n ≡ (packed name == n || has_number old n)) → (q : List ℕ) → has new q ≡ (bytes_eq name q || has old q)
+    → ((n : ℕ) → contains_number new n ≡ (pack name == n || contains_number old n)) → (q : List ℕ) → contains_name new q ≡ (bytes_eq name q || contains_name old q)
 has_more_short old new name short others more q = elim (cases_Bool (is_short q)) [
   | inl here ↦
       has_short new q here
-      ∙ more (packed q)
-      ∙ ap (λ (b : Bool). b || has_number old (packed q)) (same_number name q short here)
+      ∙ more (pack q)
+      ∙ ap (λ (b : Bool). b || contains_number old (pack q)) (same_number name q short here)
       ∙ ap (λ (b : Bool). bytes_eq name q || b) (sym (has_short old q here))
   | inr away ↦
       has_long new q away
       ∙ ap (λ s. contains_text s q) others
       ∙ sym (has_long old q away)
-      ∙ ap (λ (b : Bool). b || has old q) (sym (other_kind name q true false short away refl))
+      ∙ ap (λ (b : Bool). b || contains_name old q) (sym (other_kind name q true false short away refl))
 ]
 
 -- the same names still
-pub has_same_short : (old new : NameSet) → new.long ≡ old.long → ((n : ℕ) → has_number new n ≡ has_number old n) → (q : List ℕ) → has new q ≡ has old q
+pub has_same_short : (old new : NameSet) → new.long ≡ old.long → ((n : ℕ) → contains_number new n ≡ contains_number old n) → (q : List ℕ) → contains_name new q ≡ contains_name old q
 has_same_short old new others same q = elim (cases_Bool (is_short q)) [
-  | inl here ↦ has_short new q here ∙ same (packed q) ∙ sym (has_short old q here)
+  | inl here ↦ has_short new q here ∙ same (pack q) ∙ sym (has_short old q here)
   | inr away ↦ has_long new q away ∙ ap (λ s. contains_text s q) others ∙ sym (has_long old q away)
 ]
 
 -- one longer name more
-pub has_more_long : (old new : NameSet) (name : List ℕ) → is_short name ≡ false → ((n : ℕ) → has_number new n ≡ has_number old n)
-    → UpdatesBy string_cmp (λ k. slice_cmp nat_cmp name (string_bytes k)) old.long new.long true → (q : List ℕ) → has new q ≡ (bytes_eq name q || has old q)
+pub has_more_long : (old new : NameSet) (name : List ℕ) → is_short name ≡ false → ((n : ℕ) → contains_number new n ≡ contains_number old n)
+    → UpdatesBy string_cmp (λ k. slice_cmp nat_cmp name (string_bytes k)) old.long new.long true → (q : List ℕ) → contains_name new q ≡ (bytes_eq name q || contains_name old q)
 has_more_long old new name long others updates q = elim (cases_Bool (is_short q)) [
   | inl here ↦
       has_short new q here
-      ∙ others (packed q)
+      ∙ others (pack q)
       ∙ sym (has_short old q here)
-      ∙ ap (λ (b : Bool). b || has old q) (sym (other_kind name q false true long here refl))
+      ∙ ap (λ (b : Bool). b || contains_name old q) (sym (other_kind name q false true long here refl))
   | inr away ↦
       has_long new q away
       ∙ btree_set_updates_text name old.long new.long true updates q

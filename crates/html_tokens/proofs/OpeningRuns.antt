@@ -12,8 +12,8 @@ use Rattle.html_syntax.specs.States.State.{Data, TagOpen, EndTagOpen, TagName, B
 use Rattle.html_syntax.specs.States.Action.{ReconsumeIn, SwitchPast}
 use Rattle.html_syntax.specs.Tokenizer.{look, look_again, step, read, tokens_at_end}
 use Rattle.html_references.specs.Input.{input}
-use Rattle.html_references.specs.Prefixes.{begins_lowered}
-use Rattle.html_tokens.specs.Openings.{opening_len, state_after, after_bang, after_solidus, opening_of, OpensTag, begins_empty}
+use Rattle.html_references.specs.Prefixes.{begins_ignore_case}
+use Rattle.html_tokens.specs.Openings.{opening_len, state_after_opening, opening_after_bang, opening_after_solidus, opening_of, OpensTag, begins_empty_tag}
 use Rattle.html_tokens.specs.Scanned.{opens_markup, opens_start, opens_end}
 use Rattle.html_tokens.specs.declared.markup.Opening.{Opening}
 use Rattle.html_tokens.specs.declared.markup.Opening.TheVariants as opening
@@ -85,7 +85,7 @@ doctype_read a b c d e f g text h k =
 
 -- ---- words at the front of a text and of its input stream
 
--- a character that is read as it stands
+-- a character that is read as itself
 abbrev is_firm : ℕ → Bool
 is_firm x = not (x == 10) && not (x == 13) && nat_lt x 128
 
@@ -129,7 +129,7 @@ small_letter c h = grind (arith, nat_tests)
 no_return_letter : (c : ℕ) → is_letter c ≡ true → c ≢ 13
 no_return_letter c h e = absurd (grind (arith, nat_tests))
 
-lowered_stream : (w bytes : List ℕ) → list_all is_letter w ≡ true → IsUtf8 bytes → begins_lowered w (input bytes) ≡ begins_lowered w bytes
+lowered_stream : (w bytes : List ℕ) → list_all is_letter w ≡ true → IsUtf8 bytes → begins_ignore_case w (input bytes) ≡ begins_ignore_case w bytes
 lowered_stream [] bytes h utf8 = refl
 lowered_stream (x ∷ w) [] h utf8 = rw input-nil refl
 lowered_stream (x ∷ w) (b ∷ bytes) h utf8 =
@@ -143,27 +143,27 @@ lowered_stream (x ∷ w) (b ∷ bytes) h utf8 =
           rw (f.is, not_lowered x b parts.0 other, not_lowered x f.char parts.0 (not-true (is_letter f.char) f.passes)) refl
     ]
 
-begins_taken : (w cs : List ℕ) → begins_with w (map lower (take (length w) cs)) ≡ begins_lowered w cs
+begins_taken : (w cs : List ℕ) → begins_with w (map lower (take (length w) cs)) ≡ begins_ignore_case w cs
 begins_taken [] cs = refl
 begins_taken (x ∷ w) [] = refl
 begins_taken (x ∷ w) (c ∷ cs) = ap (λ (t : Bool). x == lower c && t) (begins_taken w cs)
 
-lowered_len : (w cs : List ℕ) → begins_lowered w cs ≡ true → length w ≤ length cs
+lowered_len : (w cs : List ℕ) → begins_ignore_case w cs ≡ true → length w ≤ length cs
 lowered_len [] cs h = omega arith
 lowered_len (x ∷ w) [] h = absurd cc
-lowered_len (x ∷ w) (c ∷ cs) h = omega (arith, lowered_len w cs (and_parts (x == lower c) (begins_lowered w cs) h).1)
+lowered_len (x ∷ w) (c ∷ cs) h = omega (arith, lowered_len w cs (and_parts (x == lower c) (begins_ignore_case w cs) h).1)
 
 -- a text that begins with a word of letters
 pub record Lettered (w bytes : List ℕ) : Type 0 where
   pub stream : input bytes ≡ take (length w) bytes ++ input (drop (length w) bytes)
   pub utf8 : IsUtf8 (drop (length w) bytes)
 
-lettered : (w bytes : List ℕ) → list_all is_letter w ≡ true → begins_lowered w bytes ≡ true → IsUtf8 bytes → Lettered w bytes
+lettered : (w bytes : List ℕ) → list_all is_letter w ≡ true → begins_ignore_case w bytes ≡ true → IsUtf8 bytes → Lettered w bytes
 lettered [] bytes h b utf8 = record { stream = refl; utf8 = utf8 }
 lettered (x ∷ w) [] h b utf8 = absurd cc
 lettered (x ∷ w) (d ∷ bytes) h b utf8 =
     let parts = and_parts (is_letter x) (list_all is_letter w) h in
-    let begun = and_parts (x == lower d) (begins_lowered w bytes) b in
+    let begun = and_parts (x == lower d) (begins_ignore_case w bytes) b in
     let letter = letter_of_lower x d parts.0 begun.0 in
     let rest = lettered w bytes parts.1 begun.1 (utf8_tail d bytes (small_letter d letter) utf8) in
     record {
@@ -173,7 +173,7 @@ lettered (x ∷ w) (d ∷ bytes) h b utf8 =
 
 -- ---- after `<!`
 
-pub doctype_here : (t : List ℕ) → IsUtf8 t → begins_lowered (codes "doctype") t ≡ true → (read Markup 0 (input t) ≡ read DoctypeBody 0 (input (drop 7 t))) × IsUtf8 (drop 7 t)
+pub doctype_here : (t : List ℕ) → IsUtf8 t → begins_ignore_case (codes "doctype") t ≡ true → (read Markup 0 (input t) ≡ read DoctypeBody 0 (input (drop 7 t))) × IsUtf8 (drop 7 t)
 doctype_here [] utf8 h = absurd (omega (arith, lowered_len (codes "doctype") [] h))
 doctype_here (a ∷ []) utf8 h = absurd (omega (arith, lowered_len (codes "doctype") (a ∷ []) h))
 doctype_here (a ∷ b ∷ []) utf8 h = absurd (omega (arith, lowered_len (codes "doctype") (a ∷ b ∷ []) h))
@@ -183,7 +183,7 @@ doctype_here (a ∷ b ∷ c ∷ d ∷ e ∷ []) utf8 h = absurd (omega (arith, l
 doctype_here (a ∷ b ∷ c ∷ d ∷ e ∷ f ∷ []) utf8 h = absurd (omega (arith, lowered_len (codes "doctype") (a ∷ b ∷ c ∷ d ∷ e ∷ f ∷ []) h))
 doctype_here (a ∷ b ∷ c ∷ d ∷ e ∷ f ∷ g ∷ u) utf8 h =
     let l = lettered (codes "doctype") (a ∷ b ∷ c ∷ d ∷ e ∷ f ∷ g ∷ u) refl h utf8 in
-    let first : (100 == lower a) ≡ true = (and_parts (100 == lower a) (begins_lowered (codes "octype") (b ∷ c ∷ d ∷ e ∷ f ∷ g ∷ u)) h).0 in
+    let first : (100 == lower a) ≡ true = (and_parts (100 == lower a) (begins_ignore_case (codes "octype") (b ∷ c ∷ d ∷ e ∷ f ∷ g ∷ u)) h).0 in
     let letter : is_letter a ≡ true = letter_of_lower 100 a refl first in
     let no_hyphen : (45 == a) ≡ false = grind (arith, nat_tests) in
     (ap (read Markup 0) l.stream ∙ doctype_read a b c d e f g (input u) no_hyphen (begins_taken (codes "doctype") (a ∷ b ∷ c ∷ d ∷ e ∷ f ∷ g ∷ u) ∙ h), l.utf8)
@@ -199,11 +199,11 @@ comment_here (a ∷ b ∷ t) utf8 h =
     let there = utf8_tail 45 t (omega arith) (utf8_tail 45 (45 ∷ t) (omega arith) (rw (x, y) at utf8)) in
     (rw (x, y, input-cons 45 (45 ∷ t) (omega arith) (λ (e : 45 ≡ 13). omega arith), input-cons 45 t (omega arith) (λ (e : 45 ≡ 13). omega arith)) (hyphens (input t)), there)
 
-bogus_markup : (cs : List ℕ) → begins_with (codes "--") cs ≡ false → begins_lowered (codes "doctype") cs ≡ false → read Markup 0 cs ≡ read (Bogus []) 0 cs
+bogus_markup : (cs : List ℕ) → begins_with (codes "--") cs ≡ false → begins_ignore_case (codes "doctype") cs ≡ false → read Markup 0 cs ≡ read (Bogus []) 0 cs
 bogus_markup [] h g = markup_nil
 bogus_markup (c ∷ cs) h g = reconsumed Markup (Bogus []) [] c cs (bogus_markup_look c cs h (begins_taken (codes "doctype") (c ∷ cs) ∙ g))
 
-pub bogus_here : (t : List ℕ) → IsUtf8 t → begins_with (codes "--") t ≡ false → begins_lowered (codes "doctype") t ≡ false → read Markup 0 (input t) ≡ read (Bogus []) 0 (input t)
+pub bogus_here : (t : List ℕ) → IsUtf8 t → begins_with (codes "--") t ≡ false → begins_ignore_case (codes "doctype") t ≡ false → read Markup 0 (input t) ≡ read (Bogus []) 0 (input t)
 bogus_here t utf8 h g = bogus_markup (input t) (begins_stream (codes "--") t refl utf8 ∙ h) (lowered_stream (codes "doctype") t refl utf8 ∙ g)
 
 -- ---- what opens
@@ -211,7 +211,7 @@ bogus_here t utf8 h g = bogus_markup (input t) (begins_stream (codes "--") t ref
 pub record Opened (rest : List ℕ) (o : Opening) : Type 0 where
   pub utf8 : IsUtf8 (drop (opening_len o) rest)
   pub within : opening_len o ≤ length rest
-  pub reads : read Data 0 (input rest) ≡ read (state_after o) 0 (input (drop (opening_len o) rest))
+  pub reads : read Data 0 (input rest) ≡ read (state_after_opening o) 0 (input (drop (opening_len o) rest))
   pub tag : OpensTag rest o
 
 ascii : (b : ℕ) (bytes : List ℕ) → b < 128 → b ≢ 13 → input (b ∷ bytes) ≡ b ∷ input bytes
@@ -226,12 +226,12 @@ bang_in bytes = rw (less (33 ∷ bytes), input-cons 33 bytes (omega arith) (λ (
 solidus_in : (bytes : List ℕ) → read Data 0 (input (60 ∷ 47 ∷ bytes)) ≡ read EndTagOpen 0 (input bytes)
 solidus_in bytes = rw (less (47 ∷ bytes), input-cons 47 bytes (omega arith) (λ (e : 47 ≡ 13). omega arith)) (tag_open (47 ∷ input bytes) ∙ end_tag_open (input bytes))
 
-bang_opens : (t : List ℕ) → IsUtf8 t → Opened (60 ∷ 33 ∷ t) (after_bang t)
+bang_opens : (t : List ℕ) → IsUtf8 t → Opened (60 ∷ 33 ∷ t) (opening_after_bang t)
 bang_opens t utf8 = elim (cases_Bool (begins_with (codes "--") t)) [
   | inl is ↦
       let h = comment_here t utf8 is in
       rw is record { utf8 = h.1; within = omega (arith, begins-len (codes "--") t is); reads = bang_in t ∙ h.0; tag = tt }
-  | inr other ↦ elim (cases_Bool (begins_lowered (codes "doctype") t)) [
+  | inr other ↦ elim (cases_Bool (begins_ignore_case (codes "doctype") t)) [
     | inl is ↦
         let h = doctype_here t utf8 is in
         rw (other, is) record { utf8 = h.1; within = omega (arith, lowered_len (codes "doctype") t is); reads = bang_in t ∙ h.0; tag = tt }
@@ -242,7 +242,7 @@ bang_opens t utf8 = elim (cases_Bool (begins_with (codes "--") t)) [
 end_nil : read EndTagOpen 0 (input []) ≡ read EndTagOpen 0 []
 end_nil = rw input-nil refl
 
-end_opens : (c : ℕ) (t : List ℕ) → IsUtf8 (c ∷ t) → (c == 62) ≡ false → Opened (60 ∷ 47 ∷ c ∷ t) (after_solidus (c ∷ t))
+end_opens : (c : ℕ) (t : List ℕ) → IsUtf8 (c ∷ t) → (c == 62) ≡ false → Opened (60 ∷ 47 ∷ c ∷ t) (opening_after_solidus (c ∷ t))
 end_opens c t utf8 h = elim (cases_Bool (is_letter c)) [
   | inl is ↦
       let same : input (c ∷ t) ≡ c ∷ input t = input-cons c t (small_letter c is) (no_return_letter c is) in
@@ -277,7 +277,7 @@ start_opens c t utf8 is =
       tag = is;
     }
 
-solidus_opens : (t : List ℕ) → IsUtf8 t → opens_markup (60 ∷ 47 ∷ t) ≡ true → begins_empty (60 ∷ 47 ∷ t) ≡ false → Opened (60 ∷ 47 ∷ t) (after_solidus t)
+solidus_opens : (t : List ℕ) → IsUtf8 t → opens_markup (60 ∷ 47 ∷ t) ≡ true → begins_empty_tag (60 ∷ 47 ∷ t) ≡ false → Opened (60 ∷ 47 ∷ t) (opening_after_solidus t)
 solidus_opens [] utf8 h g = absurd cc
 solidus_opens (c ∷ t) utf8 h g = end_opens c t utf8 g
 
@@ -285,7 +285,7 @@ only : (x : Bool) → (x || false || false || false) ≡ true → x ≡ true
 only true h = refl
 only false h = h
 
-opened_two : (b : ℕ) (t : List ℕ) → IsUtf8 (b ∷ t) → opens_markup (60 ∷ b ∷ t) ≡ true → begins_empty (60 ∷ b ∷ t) ≡ false → Opened (60 ∷ b ∷ t) (opening_of (60 ∷ b ∷ t))
+opened_two : (b : ℕ) (t : List ℕ) → IsUtf8 (b ∷ t) → opens_markup (60 ∷ b ∷ t) ≡ true → begins_empty_tag (60 ∷ b ∷ t) ≡ false → Opened (60 ∷ b ∷ t) (opening_of (60 ∷ b ∷ t))
 opened_two b t utf8 h g = elim (cases_Bool (b == 33)) [
   | inl is ↦
       let e : b ≡ 33 = eqb-true b 33 is in
@@ -297,7 +297,7 @@ opened_two b t utf8 h g = elim (cases_Bool (b == 33)) [
     | inr question ↦ elim (cases_Bool (b == 47)) [
       | inl is ↦
           let e : b ≡ 47 = eqb-true b 47 is in
-          rw e (solidus_opens t (utf8_tail b t (omega (arith, e)) utf8) (subst (λ (x : ℕ). opens_markup (60 ∷ x ∷ t) ≡ true) e h) (subst (λ (x : ℕ). begins_empty (60 ∷ x ∷ t) ≡ false) e g))
+          rw e (solidus_opens t (utf8_tail b t (omega (arith, e)) utf8) (subst (λ (x : ℕ). opens_markup (60 ∷ x ∷ t) ≡ true) e h) (subst (λ (x : ℕ). begins_empty_tag (60 ∷ x ∷ t) ≡ false) e g))
       | inr solidus ↦
           let letter : is_letter b ≡ true = only (is_letter b) (rw (bang, question, solidus) at h) in
           rw (bang, question, solidus) (start_opens b t utf8 letter)
@@ -306,12 +306,12 @@ opened_two b t utf8 h g = elim (cases_Bool (b == 33)) [
 ]
 
 -- nothing but markup, of which `</>` is none
-pub opened_by : (rest : List ℕ) → IsUtf8 rest → opens_markup rest ≡ true → begins_empty rest ≡ false → Opened rest (opening_of rest)
+pub opened_by : (rest : List ℕ) → IsUtf8 rest → opens_markup rest ≡ true → begins_empty_tag rest ≡ false → Opened rest (opening_of rest)
 opened_by [] utf8 h g = absurd cc
 opened_by (a ∷ []) utf8 h g = absurd cc
 opened_by (a ∷ b ∷ t) utf8 h g =
     let e : a ≡ 60 = eqb-true a 60 (and_parts (a == 60) _ h).0 in
-    rw e (opened_two b t (utf8_tail 60 (b ∷ t) (omega arith) (rw e at utf8)) (subst (λ (x : ℕ). opens_markup (x ∷ b ∷ t) ≡ true) e h) (subst (λ (x : ℕ). begins_empty (x ∷ b ∷ t) ≡ false) e g))
+    rw e (opened_two b t (utf8_tail 60 (b ∷ t) (omega arith) (rw e at utf8)) (subst (λ (x : ℕ). opens_markup (x ∷ b ∷ t) ≡ true) e h) (subst (λ (x : ℕ). begins_empty_tag (x ∷ b ∷ t) ≡ false) e g))
 
 pub opened_boundary : (rest : List ℕ) (o : Opening) → Opened rest o → IsCharBoundary rest (opening_len o)
 opened_boundary rest o h = IsCharBoundary-from_drop rest (opening_len o) h.within h.utf8
@@ -329,7 +329,7 @@ empty_three t utf8 = record {
   within = omega arith;
 }
 
-pub empty_here : (rest : List ℕ) → IsUtf8 rest → begins_empty rest ≡ true → Empty rest
+pub empty_here : (rest : List ℕ) → IsUtf8 rest → begins_empty_tag rest ≡ true → Empty rest
 empty_here [] utf8 h = absurd cc
 empty_here (a ∷ []) utf8 h = absurd cc
 empty_here (a ∷ b ∷ []) utf8 h = absurd cc
@@ -341,7 +341,7 @@ empty_here (a ∷ b ∷ c ∷ t) utf8 h =
     let z : c ≡ 62 = eqb-true c 62 first.1 in
     rw (x, y, z) (empty_three t (rw (x, y, z) at utf8))
 
-pub empty_next : (rest : List ℕ) (at : ℕ) → IsUtf8 rest → IsCharBoundary rest at → begins_empty (drop at rest) ≡ true → read Data 0 (input rest) ≡ read Data 0 (input (drop at rest))
+pub empty_next : (rest : List ℕ) (at : ℕ) → IsUtf8 rest → IsCharBoundary rest at → begins_empty_tag (drop at rest) ≡ true → read Data 0 (input rest) ≡ read Data 0 (input (drop at rest))
     → IsCharBoundary rest (at + 3) × (read Data 0 (input rest) ≡ read Data 0 (input (drop (at + 3) rest)))
 empty_next rest at utf8 cut h before =
     let e = empty_here (drop at rest) (IsUtf8-drop rest at utf8 cut) h in (

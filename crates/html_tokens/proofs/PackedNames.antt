@@ -3,7 +3,7 @@ use Rattle.std.proofs.Common.{◌≡◌, ℕ, ◌+◌, ◌*◌, ◌<◌, ◌≤�
 use Rattle.std.proofs.Math.Nat.{mul-le-mul_right}
 use Rattle.std.proofs.lemmas.Bool.{cases_lt}
 use Rattle.std.specs.List.{fold, AllByRecursion}
-use Rattle.html_tokens.specs.PackedNames.{packed}
+use Rattle.html_tokens.specs.PackedNames.{pack}
 
 -- the digits after m
 abbrev pub number_after : ℕ → List ℕ → ℕ
@@ -41,7 +41,7 @@ longer (x ∷ xs) (y ∷ ys) lt =
     let h = longer xs ys less in omega (arith, h)
 
 -- the shorter of two names has the smaller number
-shorter_less : (xs ys : List ℕ) → AreBytes xs → length xs < length ys → packed xs < packed ys
+shorter_less : (xs ys : List ℕ) → AreBytes xs → length xs < length ys → pack xs < pack ys
 shorter_less xs ys bytes lt =
     let top = high 1 xs bytes in
     let far = longer xs ys lt in
@@ -60,7 +60,7 @@ same_digits m n (x ∷ xs) (y ∷ ys) p q len e =
     let digit : x ≡ y = omega (arith, rest.0, p.0, q.0) in
     (front, cc (digit, rest.1))
 
-pub packed_apart : (xs ys : List ℕ) → AreBytes xs → AreBytes ys → packed xs ≡ packed ys → xs ≡ ys
+pub packed_apart : (xs ys : List ℕ) → AreBytes xs → AreBytes ys → pack xs ≡ pack ys → xs ≡ ys
 packed_apart xs ys p q e = elim (cases_lt (length xs) (length ys)) [
   | inl lt ↦ let less = shorter_less xs ys p lt in absurd (omega (arith, less, e))
   | inr le ↦ elim (cases_lt (length ys) (length xs)) [

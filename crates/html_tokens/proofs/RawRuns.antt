@@ -13,9 +13,9 @@ use Rattle.html_syntax.specs.States.State.{Data, Raw, RawLess, Plaintext}
 use Rattle.html_syntax.specs.States.Action.{ReconsumeIn}
 use Rattle.html_syntax.specs.Tokenizer.{look, look_again, step, read, tokens_at_end, chars}
 use Rattle.html_references.specs.Input.{input, decode_references, read_as}
-use Rattle.html_tokens.specs.Scanned.{name_of, kind_of}
-use Rattle.html_tokens.specs.Contents.{text_in, named, closes}
-use Rattle.html_tokens.specs.Cuts.{Lacks, BeginsWith}
+use Rattle.html_tokens.specs.Scanned.{element_name, raw_text_kind}
+use Rattle.html_tokens.specs.Contents.{content_read_as, begins_with_name, begins_end_tag}
+use Rattle.html_tokens.specs.Cuts.{LacksByte, BeginsWithByte}
 use Rattle.html_tokens.specs.declared.mode.Content.{Content}
 use Rattle.html_tokens.specs.declared.mode.Content.TheVariants as content
 use Rattle.html_tokens.proofs.Runs.{emits, emits-more, reconsumed, run}
@@ -78,13 +78,13 @@ less_other k last b bytes plain unescaped utf8 h =
     let f = first_unslashed b bytes utf8 h in
     rw f.is (raw_less k last (f.char ∷ f.rest) unescaped ∙ reconsumed (RawLess k last) (Raw k last) (Char 60 ∷ []) f.char f.rest (look_less k last f.char f.rest plain (no_solidus f.char f.passes)))
 
-less_solidus : (k : RawTextKind) (last : List ℕ) (b : ℕ) (bytes : List ℕ) → b ≡ 47 → IsUtf8 (b ∷ bytes) → named (60 ∷ 47 ∷ last) (60 ∷ b ∷ bytes) ≡ false
+less_solidus : (k : RawTextKind) (last : List ℕ) (b : ℕ) (bytes : List ℕ) → b ≡ 47 → IsUtf8 (b ∷ bytes) → begins_with_name (60 ∷ 47 ∷ last) (60 ∷ b ∷ bytes) ≡ false
     → read (Raw k last) 0 (input (60 ∷ b ∷ bytes)) ≡ Char 60 ∷ read (Raw k last) 0 (input (b ∷ bytes))
 less_solidus k last b bytes e utf8 h =
-    rw e (raw_solidus k last bytes (utf8_tail b bytes (omega (arith, e)) utf8) (subst (λ (x : ℕ). named (60 ∷ 47 ∷ last) (60 ∷ x ∷ bytes) ≡ false) e h))
+    rw e (raw_solidus k last bytes (utf8_tail b bytes (omega (arith, e)) utf8) (subst (λ (x : ℕ). begins_with_name (60 ∷ 47 ∷ last) (60 ∷ x ∷ bytes) ≡ false) e h))
 
 -- a `<` that begins no end tag of the element
-less_text : (k : RawTextKind) (last tail : List ℕ) → is_script k ≡ false → is_escaped k ≡ false → IsUtf8 tail → named (60 ∷ 47 ∷ last) (60 ∷ tail) ≡ false
+less_text : (k : RawTextKind) (last tail : List ℕ) → is_script k ≡ false → is_escaped k ≡ false → IsUtf8 tail → begins_with_name (60 ∷ 47 ∷ last) (60 ∷ tail) ≡ false
     → read (Raw k last) 0 (input (60 ∷ tail)) ≡ Char 60 ∷ read (Raw k last) 0 (input tail)
 less_text k last [] plain unescaped utf8 h = rw (input-less [], input-nil) (less_nil k last)
 less_text k last (b ∷ bytes) plain unescaped utf8 h = elim (cases_Bool (b == 47)) [
@@ -114,14 +114,14 @@ rcdata_decodes last = record { keeps = rcdata_keeps last; refers = rcdata_refers
 abbrev rcdata_of : List ℕ → List ℕ
 rcdata_of text = decode_references false replace_null 0 text
 
-rcdata_piece : (last kept xs ys : List ℕ) → IsUtf8 xs → Lacks 60 xs → BeginsWith 60 ys → emits (Raw Rcdata last) kept 0 (input (xs ++ ys)) ≡ emits (Raw Rcdata last) (kept ++ rcdata_of (input xs)) 0 (input ys)
+rcdata_piece : (last kept xs ys : List ℕ) → IsUtf8 xs → LacksByte 60 xs → BeginsWithByte 60 ys → emits (Raw Rcdata last) kept 0 (input (xs ++ ys)) ≡ emits (Raw Rcdata last) (kept ++ rcdata_of (input xs)) 0 (input ys)
 rcdata_piece last kept xs ys utf8 lacks begins =
     ap (emits (Raw Rcdata last) kept 0) (input-append xs ys utf8 (begins_marked 60 (omega arith) (λ (e : 60 ≡ 10). omega arith) ys begins))
     ∙ decoded_run (emits (Raw Rcdata last)) false is_plain replace_null (rcdata_decodes last) kept (input xs) (input ys) (all_plain xs utf8 lacks) (less_stops ys begins)
 
 -- a `<` that begins no end tag of this name
 abbrev pub Unclosing : List ℕ → List ℕ → Type 0
-Unclosing last text = named (60 ∷ 47 ∷ last) text ≡ false
+Unclosing last text = begins_with_name (60 ∷ 47 ∷ last) text ≡ false
 
 raw_here : (k : RawTextKind) (last kept tail : List ℕ) → is_script k ≡ false → is_escaped k ≡ false → IsUtf8 tail → Unclosing last (60 ∷ tail) → emits (Raw k last) kept 0 (input (60 ∷ tail)) ≡ emits (Raw k last) (kept ++ 60 ∷ []) 0 (input tail)
 raw_here k last kept tail plain unescaped utf8 h =
@@ -152,7 +152,7 @@ rawtext_keeps last kept c text h =
     let less : (c == 60) ≡ false = not-true (c == 60) h in
     rw less (emits-more (Raw Rawtext last) kept (replace_null c ∷ []) 0 text)
 
-rawtext_piece : (last kept xs ys : List ℕ) → IsUtf8 xs → Lacks 60 xs → BeginsWith 60 ys → emits (Raw Rawtext last) kept 0 (input (xs ++ ys)) ≡ emits (Raw Rawtext last) (kept ++ map replace_null (input xs)) 0 (input ys)
+rawtext_piece : (last kept xs ys : List ℕ) → IsUtf8 xs → LacksByte 60 xs → BeginsWithByte 60 ys → emits (Raw Rawtext last) kept 0 (input (xs ++ ys)) ≡ emits (Raw Rawtext last) (kept ++ map replace_null (input xs)) 0 (input ys)
 rawtext_piece last kept xs ys utf8 lacks begins =
     ap (emits (Raw Rawtext last) kept 0) (input-append xs ys utf8 (begins_marked 60 (omega arith) (λ (e : 60 ≡ 10). omega arith) ys begins))
     ∙ run (emits (Raw Rawtext last)) is_plain replace_null (rawtext_keeps last) kept (input xs) (input ys) (all_plain xs utf8 lacks)
@@ -173,13 +173,13 @@ rawtext_marks last = record {
 -- ---- the elements
 
 abbrev pub inside : Content → State
-inside c = Raw (kind_of c) (name_of c)
+inside c = Raw (raw_text_kind c) (element_name c)
 
 -- a `<` that begins no end tag of the element
 abbrev pub GoesOn : Content → List ℕ → Type 0
-GoesOn c text = closes c text ≡ false
+GoesOn c text = begins_end_tag c text ≡ false
 
-pub content_marks : (c : Content) → is_script (kind_of c) ≡ false → Marks (emits (inside c)) 60 (read_as (text_in c)) (GoesOn c)
+pub content_marks : (c : Content) → is_script (raw_text_kind c) ≡ false → Marks (emits (inside c)) 60 (read_as (content_read_as c)) (GoesOn c)
 content_marks content.Title h = rcdata_marks (codes "title")
 content_marks content.Textarea h = rcdata_marks (codes "textarea")
 content_marks content.Style h = rawtext_marks (codes "style")
@@ -189,7 +189,7 @@ content_marks content.Noembed h = rawtext_marks (codes "noembed")
 content_marks content.Noframes h = rawtext_marks (codes "noframes")
 content_marks content.Script h = absurd cc
 
-pub word_of : (c : Content) → IsWord (name_of c)
+pub word_of : (c : Content) → IsWord (element_name c)
 word_of content.Title = refl
 word_of content.Textarea = refl
 word_of content.Style = refl
@@ -199,13 +199,13 @@ word_of content.Noembed = refl
 word_of content.Noframes = refl
 word_of content.Script = refl
 
--- the content ends where its end tag stands
-pub content_closed : (c : Content) (bytes : List ℕ) → closes c bytes ≡ true → read (inside c) 0 (input bytes) ≡ read Data 0 (input bytes)
-content_closed c bytes h = closed (kind_of c) (name_of c) bytes (word_of c) h
+-- the content ends at its end tag
+pub content_closed : (c : Content) (bytes : List ℕ) → begins_end_tag c bytes ≡ true → read (inside c) 0 (input bytes) ≡ read Data 0 (input bytes)
+content_closed c bytes h = closed (raw_text_kind c) (element_name c) bytes (word_of c) h
 
--- and where the text does
+-- and at the end of the text
 pub content_over : (c : Content) (rest : List ℕ) (at : ℕ) → length rest ≤ at → read (inside c) 0 (input (drop at rest)) ≡ read Data 0 (input (drop at rest))
-content_over c rest at over = rw (drop_all at rest over, input-nil) (raw_nil (kind_of c) (name_of c))
+content_over c rest at over = rw (drop_all at rest over, input-nil) (raw_nil (raw_text_kind c) (element_name c))
 
 -- ---- plaintext
 

@@ -51,7 +51,7 @@ reconsumed s t out c text e =
 
 -- ---- a run
 
--- What is read of a text where `kept` are the characters that were read before: `F kept passing text`.
+-- The tokens of a text after the characters `kept`: `F kept passing text`.
 abbrev pub Reader : Type 0
 Reader = List ℕ → ℕ → List ℕ → List Token
 

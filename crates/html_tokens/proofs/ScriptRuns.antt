@@ -12,7 +12,7 @@ use Rattle.html_syntax.specs.States.State.{Raw, RawLess, EscapeStart, EscapeStar
 use Rattle.html_syntax.specs.States.Action.{ReconsumeIn}
 use Rattle.html_syntax.specs.Tokenizer.{look, look_again, step, read, tokens_at_end}
 use Rattle.html_references.specs.Input.{input}
-use Rattle.html_tokens.specs.Contents.{named}
+use Rattle.html_tokens.specs.Contents.{begins_with_name}
 use Rattle.html_tokens.proofs.Runs.{reconsumed}
 use Rattle.html_references.proofs.Stretches.{PassesWide, First, input-first, input-cons, input-nil, utf8_tail}
 use Rattle.html_tokens.proofs.EndTags.{input-less, input-solidus, input-letter, raw_solidus}
@@ -228,7 +228,7 @@ start_over : (last : List ℕ) → (read (EscapeStart last) 0 [] ≡ read (Raw S
 unfolding read tokens_at_end
 start_over last = (refl, refl)
 
--- after `<!-`, where no second hyphen follows
+-- after `<!-`, if no second hyphen follows
 one_hyphen : (last bytes : List ℕ) → IsUtf8 bytes → begins_with (45 ∷ []) bytes ≡ false → read (EscapeStartDash last) 0 (input bytes) ≡ read (Raw Script last) 0 (input bytes)
 one_hyphen last [] utf8 h = rw input-nil (start_over last).1
 one_hyphen last (b ∷ bytes) utf8 h =
@@ -236,7 +236,7 @@ one_hyphen last (b ∷ bytes) utf8 h =
     let f = first_not 45 b bytes (omega arith) refl utf8 other in
     rw f.is (reconsumed (EscapeStartDash last) (Raw Script last) [] f.char f.rest (look_start_dash last f.char f.rest (it_is_not 45 f.char f.passes)))
 
--- after `<!`, where no two hyphens follow
+-- after `<!`, if no two hyphens follow
 no_hyphens : (last bytes : List ℕ) → IsUtf8 bytes → begins_with (45 ∷ 45 ∷ []) bytes ≡ false → read (EscapeStart last) 0 (input bytes) ≡ read (Raw Script last) 0 (input bytes)
 no_hyphens last [] utf8 h = rw input-nil (start_over last).0
 no_hyphens last (b ∷ bytes) utf8 h = elim (cases_Bool (b == 45)) [
@@ -283,7 +283,7 @@ less_other last b bytes utf8 h g =
     ap (read (Raw Script last) 0) (input-less (b ∷ bytes))
     ∙ (rw f.is (script_less last (f.char ∷ f.rest) ∙ reconsumed (RawLess Script last) (Raw Script last) (Char 60 ∷ []) f.char f.rest (look_script_less last f.char f.rest u.0 u.1)))
 
-pub less_text : (last bytes : List ℕ) → IsUtf8 bytes → named (60 ∷ 47 ∷ last) (60 ∷ bytes) ≡ false → begins_with (60 ∷ 33 ∷ 45 ∷ 45 ∷ []) (60 ∷ bytes) ≡ false → read (Raw Script last) 0 (input (60 ∷ bytes)) ≡ Char 60 ∷ read (Raw Script last) 0 (input bytes)
+pub less_text : (last bytes : List ℕ) → IsUtf8 bytes → begins_with_name (60 ∷ 47 ∷ last) (60 ∷ bytes) ≡ false → begins_with (60 ∷ 33 ∷ 45 ∷ 45 ∷ []) (60 ∷ bytes) ≡ false → read (Raw Script last) 0 (input (60 ∷ bytes)) ≡ Char 60 ∷ read (Raw Script last) 0 (input bytes)
 less_text last [] utf8 h g = rw (input-less [], input-nil) (script_nil last)
 less_text last (b ∷ bytes) utf8 h g = elim (cases_Bool (b == 47)) [
   | inl is ↦ slashed b bytes (eqb-true b 47 is) utf8 h
@@ -293,8 +293,8 @@ less_text last (b ∷ bytes) utf8 h g = elim (cases_Bool (b == 47)) [
   ]
 ]
   where
-    slashed : (b : ℕ) (bytes : List ℕ) → b ≡ 47 → IsUtf8 (b ∷ bytes) → named (60 ∷ 47 ∷ last) (60 ∷ b ∷ bytes) ≡ false → read (Raw Script last) 0 (input (60 ∷ b ∷ bytes)) ≡ Char 60 ∷ read (Raw Script last) 0 (input (b ∷ bytes))
-    slashed b bytes e utf8 h = rw e (raw_solidus Script last bytes (utf8_tail b bytes (omega (arith, e)) utf8) (subst (λ (x : ℕ). named (60 ∷ 47 ∷ last) (60 ∷ x ∷ bytes) ≡ false) e h))
+    slashed : (b : ℕ) (bytes : List ℕ) → b ≡ 47 → IsUtf8 (b ∷ bytes) → begins_with_name (60 ∷ 47 ∷ last) (60 ∷ b ∷ bytes) ≡ false → read (Raw Script last) 0 (input (60 ∷ b ∷ bytes)) ≡ Char 60 ∷ read (Raw Script last) 0 (input (b ∷ bytes))
+    slashed b bytes e utf8 h = rw e (raw_solidus Script last bytes (utf8_tail b bytes (omega (arith, e)) utf8) (subst (λ (x : ℕ). begins_with_name (60 ∷ 47 ∷ last) (60 ∷ x ∷ bytes) ≡ false) e h))
 
     banged : (b : ℕ) (bytes : List ℕ) → b ≡ 33 → IsUtf8 (b ∷ bytes) → begins_with (60 ∷ 33 ∷ 45 ∷ 45 ∷ []) (60 ∷ b ∷ bytes) ≡ false → read (Raw Script last) 0 (input (60 ∷ b ∷ bytes)) ≡ Char 60 ∷ read (Raw Script last) 0 (input (b ∷ bytes))
     banged b bytes e utf8 g = rw e (bang_text last bytes (utf8_tail b bytes (omega (arith, e)) utf8) (subst (λ (x : ℕ). begins_with (60 ∷ 33 ∷ 45 ∷ 45 ∷ []) (60 ∷ x ∷ bytes) ≡ false) e g))
@@ -351,7 +351,7 @@ escaped_unbegun last b bytes utf8 h g =
     ap (read (Raw Escaped last) 0) (input-less (b ∷ bytes))
     ∙ (rw f.is (escaped_less last (f.char ∷ f.rest) ∙ reconsumed (EscapedLess last) (Raw Escaped last) (Char 60 ∷ []) f.char f.rest (look_escaped_other last f.char f.rest u.0 u.1)))
 
-pub escaped_text : (last bytes : List ℕ) → IsUtf8 bytes → named (60 ∷ 47 ∷ last) (60 ∷ bytes) ≡ false → named (60 ∷ script) (60 ∷ bytes) ≡ false → read (Raw Escaped last) 0 (input (60 ∷ bytes)) ≡ Char 60 ∷ read (Raw Escaped last) 0 (input bytes)
+pub escaped_text : (last bytes : List ℕ) → IsUtf8 bytes → begins_with_name (60 ∷ 47 ∷ last) (60 ∷ bytes) ≡ false → begins_with_name (60 ∷ script) (60 ∷ bytes) ≡ false → read (Raw Escaped last) 0 (input (60 ∷ bytes)) ≡ Char 60 ∷ read (Raw Escaped last) 0 (input bytes)
 escaped_text last [] utf8 h g = rw (input-less [], input-nil) (escaped_nil last)
 escaped_text last (b ∷ bytes) utf8 h g = elim (cases_Bool (b == 47)) [
   | inl is ↦ slashed b bytes (eqb-true b 47 is) utf8 h
@@ -361,8 +361,8 @@ escaped_text last (b ∷ bytes) utf8 h g = elim (cases_Bool (b == 47)) [
   ]
 ]
   where
-    slashed : (b : ℕ) (bytes : List ℕ) → b ≡ 47 → IsUtf8 (b ∷ bytes) → named (60 ∷ 47 ∷ last) (60 ∷ b ∷ bytes) ≡ false → read (Raw Escaped last) 0 (input (60 ∷ b ∷ bytes)) ≡ Char 60 ∷ read (Raw Escaped last) 0 (input (b ∷ bytes))
-    slashed b bytes e utf8 h = rw e (raw_solidus Escaped last bytes (utf8_tail b bytes (omega (arith, e)) utf8) (subst (λ (x : ℕ). named (60 ∷ 47 ∷ last) (60 ∷ x ∷ bytes) ≡ false) e h))
+    slashed : (b : ℕ) (bytes : List ℕ) → b ≡ 47 → IsUtf8 (b ∷ bytes) → begins_with_name (60 ∷ 47 ∷ last) (60 ∷ b ∷ bytes) ≡ false → read (Raw Escaped last) 0 (input (60 ∷ b ∷ bytes)) ≡ Char 60 ∷ read (Raw Escaped last) 0 (input (b ∷ bytes))
+    slashed b bytes e utf8 h = rw e (raw_solidus Escaped last bytes (utf8_tail b bytes (omega (arith, e)) utf8) (subst (λ (x : ℕ). begins_with_name (60 ∷ 47 ∷ last) (60 ∷ x ∷ bytes) ≡ false) e h))
 
 -- ---- a `<` in a double escape
 
@@ -386,7 +386,7 @@ look_double_less : (last : List ℕ) (c : ℕ) (text : List ℕ) → (c == 47) �
 unfolding look
 look_double_less last c text h = rw h refl
 
-after_double_less : (last bytes : List ℕ) → IsUtf8 bytes → named (60 ∷ 47 ∷ script) (60 ∷ bytes) ≡ false → read (DoubleLess last) 0 (input bytes) ≡ read (DoubleEscaped last) 0 (input bytes)
+after_double_less : (last bytes : List ℕ) → IsUtf8 bytes → begins_with_name (60 ∷ 47 ∷ script) (60 ∷ bytes) ≡ false → read (DoubleLess last) 0 (input bytes) ≡ read (DoubleEscaped last) 0 (input bytes)
 after_double_less last [] utf8 h = rw input-nil (double_less_nil last)
 after_double_less last (b ∷ bytes) utf8 h = elim (cases_Bool (b == 47)) [
   | inl is ↦ slashed b bytes (eqb-true b 47 is) utf8 h
@@ -395,13 +395,13 @@ after_double_less last (b ∷ bytes) utf8 h = elim (cases_Bool (b == 47)) [
       rw f.is (reconsumed (DoubleLess last) (DoubleEscaped last) [] f.char f.rest (look_double_less last f.char f.rest (it_is_not 47 f.char f.passes)))
 ]
   where
-    slashed : (b : ℕ) (bytes : List ℕ) → b ≡ 47 → IsUtf8 (b ∷ bytes) → named (60 ∷ 47 ∷ script) (60 ∷ b ∷ bytes) ≡ false → read (DoubleLess last) 0 (input (b ∷ bytes)) ≡ read (DoubleEscaped last) 0 (input (b ∷ bytes))
+    slashed : (b : ℕ) (bytes : List ℕ) → b ≡ 47 → IsUtf8 (b ∷ bytes) → begins_with_name (60 ∷ 47 ∷ script) (60 ∷ b ∷ bytes) ≡ false → read (DoubleLess last) 0 (input (b ∷ bytes)) ≡ read (DoubleEscaped last) 0 (input (b ∷ bytes))
     slashed b bytes e utf8 h =
         rw (e, input-solidus bytes) (
         double_solidus last (input bytes)
-        ∙ ap (λ (l : List Token). Char 47 ∷ l) (no_double (DoubleEnd last) (Raw Escaped last) (DoubleEscaped last) (ends last) bytes (utf8_tail b bytes (omega (arith, e)) utf8) (subst (λ (x : ℕ). named (60 ∷ 47 ∷ script) (60 ∷ x ∷ bytes) ≡ false) e h))
+        ∙ ap (λ (l : List Token). Char 47 ∷ l) (no_double (DoubleEnd last) (Raw Escaped last) (DoubleEscaped last) (ends last) bytes (utf8_tail b bytes (omega (arith, e)) utf8) (subst (λ (x : ℕ). begins_with_name (60 ∷ 47 ∷ script) (60 ∷ x ∷ bytes) ≡ false) e h))
         ∙ sym (double_keeps_solidus last (input bytes)))
 
-pub double_text : (last bytes : List ℕ) → IsUtf8 bytes → named (60 ∷ 47 ∷ script) (60 ∷ bytes) ≡ false → read (DoubleEscaped last) 0 (input (60 ∷ bytes)) ≡ Char 60 ∷ read (DoubleEscaped last) 0 (input bytes)
+pub double_text : (last bytes : List ℕ) → IsUtf8 bytes → begins_with_name (60 ∷ 47 ∷ script) (60 ∷ bytes) ≡ false → read (DoubleEscaped last) 0 (input (60 ∷ bytes)) ≡ Char 60 ∷ read (DoubleEscaped last) 0 (input bytes)
 double_text last bytes utf8 h =
     ap (read (DoubleEscaped last) 0) (input-less bytes) ∙ double_less last (input bytes) ∙ ap (λ (l : List Token). Char 60 ∷ l) (after_double_less last bytes utf8 h)

@@ -12,9 +12,9 @@ use Rattle.html_syntax.specs.States.RawTextKind.{Script, Escaped}
 use Rattle.html_syntax.specs.States.State.{Data, Raw, DoubleEscaped}
 use Rattle.html_syntax.specs.Tokenizer.{read, tokens_at_end, chars}
 use Rattle.html_references.specs.Input.{input}
-use Rattle.html_tokens.specs.Cuts.{Lacks, BeginsWith}
-use Rattle.html_tokens.specs.Contents.{closes}
-use Rattle.html_tokens.specs.Scripts.{script_state, Reads, ends_script, IsMark, LacksMarks}
+use Rattle.html_tokens.specs.Cuts.{LacksByte, BeginsWithByte}
+use Rattle.html_tokens.specs.Contents.{begins_end_tag}
+use Rattle.html_tokens.specs.Scripts.{script_state, ReadsPassage, ends_script, BeginsWithMark, LacksMarks}
 use Rattle.html_tokens.specs.declared.mode.Content.TheVariants as content
 use Rattle.html_tokens.specs.declared.script.Phase.{Phase}
 use Rattle.html_tokens.specs.declared.script.Phase.TheVariants as phase
@@ -50,7 +50,7 @@ all_unmarked : (bytes : List ℕ) → IsUtf8 bytes → LacksMarks bytes → list
 unfolding is_unmarked
 all_unmarked bytes utf8 h = all-input is_unmarked wide_unmarked feed_unmarked bytes utf8 h
 
-pub mark_marked : (text : List ℕ) → IsMark text → IsMarked text
+pub mark_marked : (text : List ℕ) → BeginsWithMark text → IsMarked text
 mark_marked [] h = tt
 mark_marked (b ∷ text) (inl e) = (omega (arith, e), λ (x : b ≡ 10). omega (arith, e, x))
 mark_marked (b ∷ text) (inr e) = (omega (arith, e), λ (x : b ≡ 10). omega (arith, e, x))
@@ -75,32 +75,32 @@ double_kept kept c text h =
     let u = unmarked c h in
     ap (λ (l : List Token). chars kept ++ l) (double_keeps script c text u.0 u.1) ∙ emits-more (DoubleEscaped script) kept (replace_null c ∷ []) 0 text
 
-pub less_is_mark : (text : List ℕ) → BeginsWith 60 text → IsMark text
+pub less_is_mark : (text : List ℕ) → BeginsWithByte 60 text → BeginsWithMark text
 less_is_mark [] h = tt
 less_is_mark (b ∷ text) h = inl h
 
-pub plain_run : (text : List ℕ) (n : ℕ) → IsUtf8 text → IsCharBoundary text n → Lacks 60 (take n text) → BeginsWith 60 (drop n text) → Reads phase.Plain text n phase.Plain
+pub plain_run : (text : List ℕ) (n : ℕ) → IsUtf8 text → IsCharBoundary text n → LacksByte 60 (take n text) → BeginsWithByte 60 (drop n text) → ReadsPassage phase.Plain text n phase.Plain
 plain_run text n utf8 cut lacks begins =
     let front = IsUtf8-take text n utf8 cut in
     run_on (Raw Script script) is_plain plain_keeps text n front (all_plain (take n text) front lacks) (mark_marked (drop n text) (less_is_mark (drop n text) begins))
 
-escaped_run : (text : List ℕ) (n : ℕ) → IsUtf8 text → IsCharBoundary text n → LacksMarks (take n text) → IsMark (drop n text) → Reads phase.Escaped text n phase.Escaped
+escaped_run : (text : List ℕ) (n : ℕ) → IsUtf8 text → IsCharBoundary text n → LacksMarks (take n text) → BeginsWithMark (drop n text) → ReadsPassage phase.Escaped text n phase.Escaped
 escaped_run text n utf8 cut lacks mark =
     let front = IsUtf8-take text n utf8 cut in
     run_on (Raw Escaped script) is_unmarked escaped_kept text n front (all_unmarked (take n text) front lacks) (mark_marked (drop n text) mark)
 
-double_run : (text : List ℕ) (n : ℕ) → IsUtf8 text → IsCharBoundary text n → LacksMarks (take n text) → IsMark (drop n text) → Reads phase.DoubleEscaped text n phase.DoubleEscaped
+double_run : (text : List ℕ) (n : ℕ) → IsUtf8 text → IsCharBoundary text n → LacksMarks (take n text) → BeginsWithMark (drop n text) → ReadsPassage phase.DoubleEscaped text n phase.DoubleEscaped
 double_run text n utf8 cut lacks mark =
     let front = IsUtf8-take text n utf8 cut in
     run_on (DoubleEscaped script) is_unmarked double_kept text n front (all_unmarked (take n text) front lacks) (mark_marked (drop n text) mark)
 
-pub marked_run : (p : Phase) → (p ≡ phase.Escaped) ⊎ (p ≡ phase.DoubleEscaped) → (text : List ℕ) (n : ℕ) → IsUtf8 text → IsCharBoundary text n → LacksMarks (take n text) → IsMark (drop n text) → Reads p text n p
+pub marked_run : (p : Phase) → (p ≡ phase.Escaped) ⊎ (p ≡ phase.DoubleEscaped) → (text : List ℕ) (n : ℕ) → IsUtf8 text → IsCharBoundary text n → LacksMarks (take n text) → BeginsWithMark (drop n text) → ReadsPassage p text n p
 marked_run p (inl e) text n utf8 cut lacks mark = rw e (escaped_run text n utf8 cut lacks mark)
 marked_run p (inr e) text n utf8 cut lacks mark = rw e (double_run text n utf8 cut lacks mark)
 
 -- ---- two parts
 
-pub two_parts : (p q r : Phase) (text : List ℕ) (n m : ℕ) → input (take n text ++ take m (drop n text)) ≡ input (take n text) ++ input (take m (drop n text)) → Reads p text n q → Reads q (drop n text) m r → Reads p text (n + m) r
+pub two_parts : (p q r : Phase) (text : List ℕ) (n m : ℕ) → input (take n text ++ take m (drop n text)) ≡ input (take n text) ++ input (take m (drop n text)) → ReadsPassage p text n q → ReadsPassage q (drop n text) m r → ReadsPassage p text (n + m) r
 two_parts p q r text n m cut first second =
     let ends = script_state r in
     let back = input (drop (n + m) text) in
@@ -112,8 +112,8 @@ two_parts p q r text n m cut first second =
     ∙ emits-more ends (map replace_null one) (map replace_null two) 0 back
     ∙ ap (λ (l : List ℕ). chars l ++ read ends 0 back) (sym (map-append replace_null one two) ∙ ap (map replace_null) (sym whole))
 
--- where the first part has no carriage return
-pub plain_parts : (p q r : Phase) (text : List ℕ) (n m : ℕ) → IsUtf8 text → IsCharBoundary text n → Lacks 13 (take n text) → Reads p text n q → Reads q (drop n text) m r → Reads p text (n + m) r
+-- if the first part has no carriage return
+pub plain_parts : (p q r : Phase) (text : List ℕ) (n m : ℕ) → IsUtf8 text → IsCharBoundary text n → LacksByte 13 (take n text) → ReadsPassage p text n q → ReadsPassage q (drop n text) m r → ReadsPassage p text (n + m) r
 plain_parts p q r text n m utf8 cut lacks first second =
     two_parts p q r text n m (input-append_plain (take n text) (take m (drop n text)) (IsUtf8-take text n utf8 cut) lacks) first second
 
@@ -122,12 +122,12 @@ marked_front zero text h = tt
 marked_front (suc m) [] h = tt
 marked_front (suc m) (b ∷ text) h = h
 
--- where a mark stands between the two
-pub marked_parts : (p q r : Phase) (text : List ℕ) (n m : ℕ) → IsUtf8 text → IsCharBoundary text n → IsMark (drop n text) → Reads p text n q → Reads q (drop n text) m r → Reads p text (n + m) r
+-- if a mark is between the two
+pub marked_parts : (p q r : Phase) (text : List ℕ) (n m : ℕ) → IsUtf8 text → IsCharBoundary text n → BeginsWithMark (drop n text) → ReadsPassage p text n q → ReadsPassage q (drop n text) m r → ReadsPassage p text (n + m) r
 marked_parts p q r text n m utf8 cut mark first second =
     two_parts p q r text n m (input-append (take n text) (take m (drop n text)) (IsUtf8-take text n utf8 cut) (marked_front m (drop n text) (mark_marked (drop n text) mark))) first second
 
--- ---- where a script ends
+-- ---- the end of a script
 
 double_nil : (last : List ℕ) → read (DoubleEscaped last) 0 [] ≡ read Data 0 []
 unfolding read tokens_at_end
@@ -141,7 +141,7 @@ phase_nil phase.DoubleEscaped = double_nil script
 pub script_over : (p : Phase) (rest : List ℕ) (at : ℕ) → length rest ≤ at → read (script_state p) 0 (input (drop at rest)) ≡ read Data 0 (input (drop at rest))
 script_over p rest at over = rw (drop_all at rest over, input-nil) (phase_nil p)
 
-pub script_closed : (p : Phase) (text : List ℕ) → ends_script p text ≡ true → (closes content.Script text ≡ true) × (read (script_state p) 0 (input text) ≡ read Data 0 (input text))
+pub script_closed : (p : Phase) (text : List ℕ) → ends_script p text ≡ true → (begins_end_tag content.Script text ≡ true) × (read (script_state p) 0 (input text) ≡ read Data 0 (input text))
 script_closed phase.Plain text h = (h, content_closed content.Script text h)
 script_closed phase.Escaped text h = (h, closed Escaped script text refl h)
 script_closed phase.DoubleEscaped text h = absurd cc

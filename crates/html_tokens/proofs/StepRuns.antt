@@ -10,9 +10,9 @@ use Rattle.html_syntax.specs.States.{Tag, State, new_tag, state_after_start, rep
 use Rattle.html_syntax.specs.States.State.{Data, TagName, BeforeName, Plaintext}
 use Rattle.html_syntax.specs.Tokenizer.{read, step, look_again, look, tokens_at_end, chars}
 use Rattle.html_references.specs.Input.{input, read_as, decode_references}
-use Rattle.html_tokens.specs.Tags.{named_by, with_attributes, ended}
-use Rattle.html_tokens.specs.Scanned.{state_in, part_tokens, between, GivesToken, Holds, opens_markup, opens_start, opens_end, part_bound, part_moved}
-use Rattle.html_tokens.specs.Stepping.{RunEnds, NoMarkup, Passes, RunBegins, RunLeaves, RunsStandApart, tokens_in, StepsTo, MovesTo, Moves, run_step}
+use Rattle.html_tokens.specs.Tags.{extend_name, with_attributes, tokens_after_tag}
+use Rattle.html_tokens.specs.Scanned.{state_in, part_tokens, span_tokens, slice_between, GivesToken, HoldsPart, IsSpan, opens_markup, opens_start, opens_end, part_bound, shift_part}
+use Rattle.html_tokens.specs.Stepping.{RunEndsAtMarkup, BeginsOutsideMarkup, SkipsNoToken, RunBeginsOutsideMarkup, RunLeavesData, RunsAreSeparate, tokens_in, IsStepTo, IsStepAt, IsNextStepAt, run_step}
 use Rattle.html_tokens.specs.declared.mode.Content.{Content}
 use Rattle.html_tokens.specs.declared.mode.Mode.{Mode}
 use Rattle.html_tokens.specs.declared.mode.Mode.TheVariants as mode
@@ -24,6 +24,7 @@ use Rattle.html_references.specs.declared.stretch.ReadAs.TheVariants as reads
 use Rattle.html_tokens.specs.declared.step.Step.{Step}
 use Rattle.html_tokens.proofs.Runs.{emits, emits-more, run}
 use Rattle.html_references.proofs.Stretches.{input-nil}
+use Rattle.html_tokens.proofs.SpanTokens.{span_some, tokens_some}
 use Rattle.std.specs.List.{list_all}
 
 -- ---- tags
@@ -41,28 +42,28 @@ pub tag_rest : (rest : List ℕ) (k len n : ℕ) → drop n (drop len (drop k re
 tag_rest rest k len n = ap (drop n) (drop-drop len k rest) ∙ drop-drop n (k + len) rest
 
 pub tag_found : (rest : List ℕ) (p : Part) (k len n : ℕ) (m : Mode) (t : Token) → IsUtf8 rest → IsCharBoundary rest k → IsCharBoundary (drop k rest) len → IsCharBoundary (drop len (drop k rest)) n → 0 < k
-    → part_tokens rest 0 (k + len + n) p ≡ take 1 (read Data 0 (input rest)) → (GivesToken rest → Holds rest 0 p)
-    → RunEnds rest p (k + len + n) → RunBegins rest mode.Data p 0 → RunLeaves p m → read Data 0 (input rest) ≡ t ∷ tokens_in m (drop n (drop len (drop k rest)))
-    → StepsTo rest mode.Data (record { span = record { start = 0; end = k + len + n; part = p }; at = k + len + n; mode = m })
+    → part_tokens rest 0 (k + len + n) p ≡ take 1 (read Data 0 (input rest)) → (GivesToken rest → HoldsPart rest 0 p)
+    → RunEndsAtMarkup rest p (k + len + n) → RunBeginsOutsideMarkup rest mode.Data p 0 → RunLeavesData p m → read Data 0 (input rest) ≡ t ∷ tokens_in m (drop n (drop len (drop k rest)))
+    → IsStepTo rest mode.Data (record { span = record { start = 0; end = k + len + n; part = p }; at = k + len + n; mode = m })
 tag_found rest p k len n m t utf8 cut name_cut tag_cut some gives holds ends begins leaves reads =
     let all : List Token = read Data 0 (input rest) in
     let past = tag_boundary rest k len n cut name_cut tag_cut in
     let more : List Token = tokens_in m (drop n (drop len (drop k rest))) in
     record {
       reads = first_of all t more reads ∙ ap (λ (l : List Token). l ++ more) (sym gives) ∙ ap (λ (l : List ℕ). part_tokens rest 0 (k + len + n) p ++ tokens_in m l) (tag_rest rest k len n);
-      span = record { some = omega (arith, some); begins = IsCharBoundary-start rest utf8; ends = past; holds = holds (t, more, reads) };
+      span = record { nonempty = omega (arith, some); begins = IsCharBoundary-start rest utf8; ends = past; holds = holds (t, more, reads) };
       at = past;
       start = refl;
-      after = refl;
-      run_ends = ends;
-      run_begins = begins;
-      run_leaves = leaves;
+      ends_at_place = refl;
+      run_ends_at_markup = ends;
+      run_begins_outside_markup = begins;
+      run_leaves_data = leaves;
     }
 
 pub start_read : (rest : List ℕ) (len n : ℕ) (m : Mode) (attributes : List Attribute) → read Data 0 (input rest) ≡ read (TagName (new_tag false)) 0 (input (drop 1 rest))
-    → ((tag : Tag) → read (TagName tag) 0 (input (drop 1 rest)) ≡ read (BeforeName (named_by tag (input (take len (drop 1 rest))))) 0 (input (drop len (drop 1 rest))))
-    → read (BeforeName (named_by (new_tag false) (input (take len (drop 1 rest))))) 0 (input (drop len (drop 1 rest)))
-    ≡ ended (with_attributes (named_by (new_tag false) (input (take len (drop 1 rest)))) attributes) (input (drop n (drop len (drop 1 rest))))
+    → ((tag : Tag) → read (TagName tag) 0 (input (drop 1 rest)) ≡ read (BeforeName (extend_name tag (input (take len (drop 1 rest))))) 0 (input (drop len (drop 1 rest))))
+    → read (BeforeName (extend_name (new_tag false) (input (take len (drop 1 rest))))) 0 (input (drop len (drop 1 rest)))
+    ≡ tokens_after_tag (with_attributes (extend_name (new_tag false) (input (take len (drop 1 rest)))) attributes) (input (drop n (drop len (drop 1 rest))))
     → state_in m ≡ state_after_start (map lower (map replace_null (input (take len (drop 1 rest)))))
     → read Data 0 (input rest) ≡ Start (map lower (map replace_null (input (take len (drop 1 rest))))) attributes ∷ tokens_in m (drop n (drop len (drop 1 rest)))
 start_read rest len n m attributes opens named closes mode_is =
@@ -70,9 +71,9 @@ start_read rest len n m attributes opens named closes mode_is =
     opens ∙ named (new_tag false) ∙ closes ∙ ap (λ (s : State). Start name attributes ∷ read s 0 (input (drop n (drop len (drop 1 rest))))) (sym mode_is)
 
 pub end_read : (rest : List ℕ) (len n : ℕ) (attributes : List Attribute) → read Data 0 (input rest) ≡ read (TagName (new_tag true)) 0 (input (drop 2 rest))
-    → ((tag : Tag) → read (TagName tag) 0 (input (drop 2 rest)) ≡ read (BeforeName (named_by tag (input (take len (drop 2 rest))))) 0 (input (drop len (drop 2 rest))))
-    → read (BeforeName (named_by (new_tag true) (input (take len (drop 2 rest))))) 0 (input (drop len (drop 2 rest)))
-    ≡ ended (with_attributes (named_by (new_tag true) (input (take len (drop 2 rest)))) attributes) (input (drop n (drop len (drop 2 rest))))
+    → ((tag : Tag) → read (TagName tag) 0 (input (drop 2 rest)) ≡ read (BeforeName (extend_name tag (input (take len (drop 2 rest))))) 0 (input (drop len (drop 2 rest))))
+    → read (BeforeName (extend_name (new_tag true) (input (take len (drop 2 rest))))) 0 (input (drop len (drop 2 rest)))
+    ≡ tokens_after_tag (with_attributes (extend_name (new_tag true) (input (take len (drop 2 rest)))) attributes) (input (drop n (drop len (drop 2 rest))))
     → read Data 0 (input rest) ≡ End (map lower (map replace_null (input (take len (drop 2 rest))))) ∷ tokens_in mode.Data (drop n (drop len (drop 2 rest)))
 end_read rest len n attributes opens named closes = opens ∙ named (new_tag true) ∙ closes
 
@@ -80,7 +81,7 @@ end_read rest len n attributes opens named closes = opens ∙ named (new_tag tru
 
 pub comment_found : (rest : List ℕ) (k len end : ℕ) → IsUtf8 rest → IsCharBoundary rest k → 0 < k → IsCharBoundary (drop k rest) len → IsCharBoundary (drop k rest) end → len ≤ end
     → read Data 0 (input rest) ≡ Comment (map replace_null (input (take len (drop k rest)))) ∷ read Data 0 (input (drop end (drop k rest)))
-    → StepsTo rest mode.Data (record { span = record { start = 0; end = k + end; part = part.Comment k (k + len) }; at = k + end; mode = mode.Data })
+    → IsStepTo rest mode.Data (record { span = record { start = 0; end = k + end; part = part.Comment k (k + len) }; at = k + end; mode = mode.Data })
 comment_found rest k len end utf8 cut some len_cut end_cut ordered reads =
     let past = IsCharBoundary-from_rest rest k end cut.0 end_cut in
     let inner : (k + len) - k ≡ len = omega arith in
@@ -88,48 +89,48 @@ comment_found rest k len end utf8 cut some len_cut end_cut ordered reads =
       reads =
           reads
           ∙ ap (λ (n : ℕ). Comment (map replace_null (input (take n (drop k rest)))) ∷ read Data 0 (input (drop end (drop k rest)))) (sym inner)
-          ∙ ap (λ (l : List ℕ). Comment (map replace_null (input (between k (k + len) rest))) ∷ read Data 0 (input l)) (drop-drop end k rest);
-      span = record { some = omega (arith, some); begins = IsCharBoundary-start rest utf8; ends = past; holds = (omega arith, cut, IsCharBoundary-from_rest rest k len cut.0 len_cut) };
+          ∙ ap (λ (l : List ℕ). Comment (map replace_null (input (slice_between k (k + len) rest))) ∷ read Data 0 (input l)) (drop-drop end k rest);
+      span = record { nonempty = omega (arith, some); begins = IsCharBoundary-start rest utf8; ends = past; holds = (omega arith, cut, IsCharBoundary-from_rest rest k len cut.0 len_cut) };
       at = past;
       start = refl;
-      after = refl;
-      run_ends = tt;
-      run_begins = tt;
-      run_leaves = tt;
+      ends_at_place = refl;
+      run_ends_at_markup = tt;
+      run_begins_outside_markup = tt;
+      run_leaves_data = tt;
     }
 
 pub doctype_found : (rest : List ℕ) (end : ℕ) → IsUtf8 rest → IsCharBoundary rest 9 → IsCharBoundary (drop 9 rest) end
     → read Data 0 (input rest) ≡ Doctype ∷ read Data 0 (input (drop end (drop 9 rest)))
-    → StepsTo rest mode.Data (record { span = record { start = 0; end = 9 + end; part = part.Doctype }; at = 9 + end; mode = mode.Data })
+    → IsStepTo rest mode.Data (record { span = record { start = 0; end = 9 + end; part = part.Doctype }; at = 9 + end; mode = mode.Data })
 doctype_found rest end utf8 cut end_cut reads =
     let past = IsCharBoundary-from_rest rest 9 end cut.0 end_cut in
     record {
       reads = reads ∙ ap (λ (l : List ℕ). Doctype ∷ read Data 0 (input l)) (drop-drop end 9 rest);
-      span = record { some = omega arith; begins = IsCharBoundary-start rest utf8; ends = past; holds = tt };
+      span = record { nonempty = omega arith; begins = IsCharBoundary-start rest utf8; ends = past; holds = tt };
       at = past;
       start = refl;
-      after = refl;
-      run_ends = tt;
-      run_begins = tt;
-      run_leaves = tt;
+      ends_at_place = refl;
+      run_ends_at_markup = tt;
+      run_begins_outside_markup = tt;
+      run_leaves_data = tt;
     }
 
 -- ---- runs
 
 pub run_found : (r : ReadAs) (m : Mode) (rest : List ℕ) (end : ℕ) → IsUtf8 rest → 0 < end → IsCharBoundary rest end
-    → tokens_in m rest ≡ chars (read_as r (input (take end rest))) ++ read Data 0 (input (drop end rest)) → (end < length rest → opens_markup (drop end rest) ≡ true) → RunBegins rest m (part.Run r) 0
-    → StepsTo rest m (run_step r end)
+    → tokens_in m rest ≡ chars (read_as r (input (take end rest))) ++ read Data 0 (input (drop end rest)) → (end < length rest → opens_markup (drop end rest) ≡ true) → RunBeginsOutsideMarkup rest m (part.Run r) 0
+    → IsStepTo rest m (run_step r end)
 run_found r m rest end utf8 some cut reads ends begins =
     let whole : end - 0 ≡ end = omega arith in
     record {
       reads = reads ∙ ap (λ (n : ℕ). chars (read_as r (input (take n rest))) ++ read Data 0 (input (drop end rest))) (sym whole);
-      span = record { some = some; begins = IsCharBoundary-start rest utf8; ends = cut; holds = tt };
+      span = record { nonempty = some; begins = IsCharBoundary-start rest utf8; ends = cut; holds = tt };
       at = cut;
       start = refl;
-      after = refl;
-      run_ends = ends;
-      run_begins = begins;
-      run_leaves = refl;
+      ends_at_place = refl;
+      run_ends_at_markup = ends;
+      run_begins_outside_markup = begins;
+      run_leaves_data = refl;
     }
 
 data_nil : read Data 0 [] ≡ []
@@ -168,110 +169,124 @@ nothing_in_plaintext rest h = ap (λ (l : List ℕ). read Plaintext 0 (input l))
 
 -- ---- in a text from a place on
 
-between_moved : (text : List ℕ) (by start end : ℕ) → between start end (drop by text) ≡ between (by + start) (by + end) text
+between_moved : (text : List ℕ) (by start end : ℕ) → slice_between start end (drop by text) ≡ slice_between (by + start) (by + end) text
 between_moved text by start end =
     let len : end - start ≡ (by + end) - (by + start) = omega arith in
     ap (λ (l : List ℕ). take (end - start) l) (drop-drop start by text) ∙ ap (λ (n : ℕ). take n (drop (by + start) text)) len
 
-pub tokens_moved : (text : List ℕ) (by start end : ℕ) (p : Part) → part_tokens (drop by text) start end p ≡ part_tokens text (by + start) (by + end) (part_moved by p)
+pub tokens_moved : (text : List ℕ) (by start end : ℕ) (p : Part) → part_tokens (drop by text) start end p ≡ part_tokens text (by + start) (by + end) (shift_part by p)
 tokens_moved text by start end (part.Run r) = ap (λ (l : List ℕ). chars (read_as r (input l))) (between_moved text by start end)
 tokens_moved text by start end part.StartTag = ap (λ (l : List ℕ). take 1 (read Data 0 (input l))) (drop-drop start by text)
 tokens_moved text by start end part.EndTag = ap (λ (l : List ℕ). take 1 (read Data 0 (input l))) (drop-drop start by text)
 tokens_moved text by start end (part.Comment from to) = ap (λ (l : List ℕ). Comment (map replace_null (input l)) ∷ []) (between_moved text by from to)
 tokens_moved text by start end part.Doctype = refl
 
-holds_moved : (text : List ℕ) (by start : ℕ) (p : Part) → by ≤ length text → Holds (drop by text) start p → Holds text (by + start) (part_moved by p)
+holds_moved : (text : List ℕ) (by start : ℕ) (p : Part) → by ≤ length text → HoldsPart (drop by text) start p → HoldsPart text (by + start) (shift_part by p)
 holds_moved text by start (part.Run r) le h = tt
 holds_moved text by start part.StartTag le h = subst (λ (l : List ℕ). (opens_start l ≡ true) × GivesToken l) (drop-drop start by text) h
 holds_moved text by start part.EndTag le h = subst (λ (l : List ℕ). (opens_end l ≡ true) × GivesToken l) (drop-drop start by text) h
 holds_moved text by start (part.Comment from to) le h = (omega (arith, h.0), IsCharBoundary-from_rest text by from le h.1, IsCharBoundary-from_rest text by to le h.2)
 holds_moved text by start part.Doctype le h = tt
 
-run_ends_moved : (text : List ℕ) (by end : ℕ) (p : Part) → RunEnds (drop by text) p end → RunEnds text (part_moved by p) (by + end)
+run_ends_moved : (text : List ℕ) (by end : ℕ) (p : Part) → RunEndsAtMarkup (drop by text) p end → RunEndsAtMarkup text (shift_part by p) (by + end)
 run_ends_moved text by end (part.Run r) h = λ lt. subst (λ (l : List ℕ). opens_markup l ≡ true) (drop-drop end by text) (h (omega (arith, lt, length-drop by text)))
 run_ends_moved text by end part.StartTag h = tt
 run_ends_moved text by end part.EndTag h = tt
 run_ends_moved text by end (part.Comment from to) h = tt
 run_ends_moved text by end part.Doctype h = tt
 
-run_begins_moved : (text : List ℕ) (by start : ℕ) (m : Mode) (p : Part) → RunBegins (drop by text) m p start → RunBegins text m (part_moved by p) (by + start)
-run_begins_moved text by start m (part.Run r) h = subst (NoMarkup m) (drop-drop start by text) h
+run_begins_moved : (text : List ℕ) (by start : ℕ) (m : Mode) (p : Part) → RunBeginsOutsideMarkup (drop by text) m p start → RunBeginsOutsideMarkup text m (shift_part by p) (by + start)
+run_begins_moved text by start m (part.Run r) h = subst (BeginsOutsideMarkup m) (drop-drop start by text) h
 run_begins_moved text by start m part.StartTag h = tt
 run_begins_moved text by start m part.EndTag h = tt
 run_begins_moved text by start m (part.Comment from to) h = tt
 run_begins_moved text by start m part.Doctype h = tt
 
-run_leaves_moved : (by : ℕ) (p : Part) (m : Mode) → RunLeaves p m → RunLeaves (part_moved by p) m
+run_leaves_moved : (by : ℕ) (p : Part) (m : Mode) → RunLeavesData p m → RunLeavesData (shift_part by p) m
 run_leaves_moved by (part.Run r) m h = h
 run_leaves_moved by part.StartTag m h = tt
 run_leaves_moved by part.EndTag m h = tt
 run_leaves_moved by (part.Comment from to) m h = tt
 run_leaves_moved by part.Doctype m h = tt
 
-passes_here : (text : List ℕ) (place start : ℕ) (m : Mode) → start ≡ place → Passes text place m start
+passes_here : (text : List ℕ) (place start : ℕ) (m : Mode) → start ≡ place → SkipsNoToken text place m start
 passes_here text place start mode.Data e = ap (λ (n : ℕ). tokens_in mode.Data (drop n text)) e
 passes_here text place start (mode.Inside c) e = tt
 passes_here text place start mode.Plaintext e = tt
 
-pub moved_to : (text : List ℕ) (at : ℕ) (m : Mode) (s : Step) (moved : Span) → IsCharBoundary text at → StepsTo (drop at text) m s
-    → moved ≡ record { start = at + s.span.start; end = at + s.span.end; part = part_moved at s.span.part }
-    → MovesTo text at m (record { span = moved; at = at + s.at; mode = s.mode })
-moved_to text at m s moved cut h e = subst (λ (x : Span). MovesTo text at m (record { span = x; at = at + s.at; mode = s.mode })) (sym e) (record {
-  reads =
-      h.reads
-      ∙ ap (λ (l : List Token). l ++ tokens_in s.mode (drop s.at (drop at text))) (tokens_moved text at s.span.start s.span.end s.span.part)
-      ∙ ap (λ (l : List ℕ). part_tokens text (at + s.span.start) (at + s.span.end) (part_moved at s.span.part) ++ tokens_in s.mode l) (drop-drop s.at at text);
-  span = record {
-    some = omega (arith, h.span.some);
-    begins = IsCharBoundary-from_rest text at s.span.start cut.0 h.span.begins;
-    ends = IsCharBoundary-from_rest text at s.span.end cut.0 h.span.ends;
-    holds = holds_moved text at s.span.start s.span.part cut.0 h.span.holds;
-  };
+abbrev moved_span : ℕ → Span → Span
+moved_span by s = record { start = by + s.start; end = by + s.end; part = shift_part by s.part }
+
+span_moved : (text : List ℕ) (at : ℕ) (s : Span) → IsCharBoundary text at → IsSpan (drop at text) s → IsSpan text (moved_span at s)
+span_moved text at s cut h = record {
+  nonempty = omega (arith, h.nonempty);
+  begins = IsCharBoundary-from_rest text at s.start cut.0 h.begins;
+  ends = IsCharBoundary-from_rest text at s.end cut.0 h.ends;
+  holds = holds_moved text at s.start s.part cut.0 h.holds;
+}
+
+reads_moved : (text : List ℕ) (at : ℕ) (m : Mode) (s : Step) → IsStepTo (drop at text) m s
+    → tokens_in m (drop at text) ≡ span_tokens text (moved_span at s.span) ++ tokens_in s.mode (drop (at + s.at) text)
+reads_moved text at m s h =
+    h.reads
+    ∙ ap (λ (l : List Token). l ++ tokens_in s.mode (drop s.at (drop at text))) (tokens_moved text at s.span.start s.span.end s.span.part)
+    ∙ ap (λ (l : List ℕ). part_tokens text (at + s.span.start) (at + s.span.end) (shift_part at s.span.part) ++ tokens_in s.mode l) (drop-drop s.at at text)
+
+pub moved_to : (text : List ℕ) (at : ℕ) (m : Mode) (s : Step) (moved : Span) → IsUtf8 text → IsCharBoundary text at → IsStepTo (drop at text) m s
+    → moved ≡ record { start = at + s.span.start; end = at + s.span.end; part = shift_part at s.span.part }
+    → IsStepAt text at m (record { span = moved; at = at + s.at; mode = s.mode })
+moved_to text at m s moved utf8 cut h e = subst (λ (x : Span). IsStepAt text at m (record { span = x; at = at + s.at; mode = s.mode })) (sym e) (record {
+  reads = reads_moved text at m s h;
+  token_remains = tokens_some _ _ _ (reads_moved text at m s h) (span_some text (moved_span at s.span) utf8 (span_moved text at s.span cut h.span));
+  nonempty = span_some text (moved_span at s.span) utf8 (span_moved text at s.span cut h.span);
+  span = span_moved text at s.span cut h.span;
   at = IsCharBoundary-from_rest text at s.at cut.0 h.at;
-  before = omega arith;
-  passes = passes_here text at (at + s.span.start) m (omega (arith, h.start));
-  after = ap (λ (n : ℕ). at + n) h.after;
-  run_ends = run_ends_moved text at s.span.end s.span.part h.run_ends;
-  run_begins = run_begins_moved text at s.span.start m s.span.part h.run_begins;
-  run_leaves = run_leaves_moved at s.span.part s.mode h.run_leaves;
+  advances = omega arith;
+  skips_no_token = passes_here text at (at + s.span.start) m (omega (arith, h.start));
+  ends_at_place = ap (λ (n : ℕ). at + n) h.ends_at_place;
+  run_ends_at_markup = run_ends_moved text at s.span.end s.span.part h.run_ends_at_markup;
+  run_begins_outside_markup = run_begins_moved text at s.span.start m s.span.part h.run_begins_outside_markup;
+  run_leaves_data = run_leaves_moved at s.span.part s.mode h.run_leaves_data;
 })
 
-bound_within : (text : List ℕ) (start : ℕ) (p : Part) → Holds text start p → part_bound p ≤ length text
+bound_within : (text : List ℕ) (start : ℕ) (p : Part) → HoldsPart text start p → part_bound p ≤ length text
 bound_within text start (part.Run r) h = omega arith
 bound_within text start part.StartTag h = omega arith
 bound_within text start part.EndTag h = omega arith
 bound_within text start (part.Comment from to) h = omega (arith, h.0, h.2.0)
 bound_within text start part.Doctype h = omega arith
 
-pub moved_bound : (text : List ℕ) (at : ℕ) (m : Mode) (s : Step) → IsCharBoundary text at → StepsTo (drop at text) m s → at + part_bound s.span.part ≤ length text
+pub moved_bound : (text : List ℕ) (at : ℕ) (m : Mode) (s : Step) → IsCharBoundary text at → IsStepTo (drop at text) m s → at + part_bound s.span.part ≤ length text
 moved_bound text at m s cut h = omega (arith, cut.0, bound_within (drop at text) s.span.start s.span.part h.span.holds, length-drop at text)
 
-pub moved_ends : (text : List ℕ) (at : ℕ) (m : Mode) (s : Step) → IsCharBoundary text at → StepsTo (drop at text) m s → (at + s.span.end ≤ length text) × (at + s.at ≤ length text)
+pub moved_ends : (text : List ℕ) (at : ℕ) (m : Mode) (s : Step) → IsCharBoundary text at → IsStepTo (drop at text) m s → (at + s.span.end ≤ length text) × (at + s.at ≤ length text)
 moved_ends text at m s cut h = (omega (arith, cut.0, h.span.ends.0, length-drop at text), omega (arith, cut.0, h.at.0, length-drop at text))
 
--- in an element's content nothing is said of where a run begins
-pub begins_inside : (text : List ℕ) (content : Content) (p : Part) (start : ℕ) → RunBegins text mode.Data p start → RunBegins text (mode.Inside content) p start
+-- in an element's content a run may begin anywhere
+pub begins_inside : (text : List ℕ) (content : Content) (p : Part) (start : ℕ) → RunBeginsOutsideMarkup text mode.Data p start → RunBeginsOutsideMarkup text (mode.Inside content) p start
 begins_inside text content (part.Run r) start h = tt
 begins_inside text content part.StartTag start h = tt
 begins_inside text content part.EndTag start h = tt
 begins_inside text content (part.Comment from to) start h = tt
 begins_inside text content part.Doctype start h = tt
 
--- the same step from an earlier place, or in another mode, where the tokens are the same
+-- the same step from an earlier place, or in another mode, if the tokens are the same
 pub moves_from : (text : List ℕ) (early late : ℕ) (m n : Mode) (s : Option Step) → early ≤ late → tokens_in m (drop early text) ≡ tokens_in n (drop late text)
-    → ((p : Part) (start : ℕ) → RunBegins text n p start → RunBegins text m p start) → ((start : ℕ) → Passes text late n start → Passes text early m start)
-    → Moves text late n s → Moves text early m s
+    → ((p : Part) (start : ℕ) → RunBeginsOutsideMarkup text n p start → RunBeginsOutsideMarkup text m p start) → ((start : ℕ) → SkipsNoToken text late n start → SkipsNoToken text early m start)
+    → IsNextStepAt text late n s → IsNextStepAt text early m s
 moves_from text early late m n None le same begins passes h = same ∙ h
 moves_from text early late m n (Some s) le same begins passes h = record {
   reads = same ∙ h.reads;
+  token_remains = λ none. h.token_remains (sym same ∙ none);
+  nonempty = h.nonempty;
   span = h.span;
   at = h.at;
-  before = omega (arith, le, h.before);
-  passes = passes s.span.start h.passes;
-  after = h.after;
-  run_ends = h.run_ends;
-  run_begins = begins s.span.part s.span.start h.run_begins;
-  run_leaves = h.run_leaves;
+  advances = omega (arith, le, h.advances);
+  skips_no_token = passes s.span.start h.skips_no_token;
+  ends_at_place = h.ends_at_place;
+  run_ends_at_markup = h.run_ends_at_markup;
+  run_begins_outside_markup = begins s.span.part s.span.start h.run_begins_outside_markup;
+  run_leaves_data = h.run_leaves_data;
 }
 
 -- no characters are held by nothing
@@ -310,15 +325,15 @@ same_span s start end p x y z = rw (sym x, sym y, sym z) refl
 
 -- ---- two runs
 
-pub runs_stand_apart : RunsStandApart
-runs_stand_apart text place m first second r s a b first_run second_run = elim (cases_lt first.span.end second.span.start) [
+pub runs_are_separate : RunsAreSeparate
+runs_are_separate text place m first second r s a b first_run second_run = elim (cases_lt first.span.end second.span.start) [
   | inl lt ↦ lt
   | inr le ↦
-      let same : first.span.end ≡ second.span.start = omega (arith, le, a.after, b.before) in
-      let within : first.span.end < length text = omega (arith, same, b.span.some, b.span.ends.0) in
-      let ends : RunEnds text (part.Run r) first.span.end = subst (λ (p : Part). RunEnds text p first.span.end) first_run a.run_ends in
-      let leaves : RunLeaves (part.Run r) first.mode = subst (λ (p : Part). RunLeaves p first.mode) first_run a.run_leaves in
-      let begins : RunBegins text first.mode (part.Run s) second.span.start = subst (λ (p : Part). RunBegins text first.mode p second.span.start) second_run b.run_begins in
-      let begins_here : NoMarkup mode.Data (drop second.span.start text) = subst (λ (x : Mode). NoMarkup x (drop second.span.start text)) leaves begins in
+      let same : first.span.end ≡ second.span.start = omega (arith, le, a.ends_at_place, b.advances) in
+      let within : first.span.end < length text = omega (arith, same, b.span.nonempty, b.span.ends.0) in
+      let ends : RunEndsAtMarkup text (part.Run r) first.span.end = subst (λ (p : Part). RunEndsAtMarkup text p first.span.end) first_run a.run_ends_at_markup in
+      let leaves : RunLeavesData (part.Run r) first.mode = subst (λ (p : Part). RunLeavesData p first.mode) first_run a.run_leaves_data in
+      let begins : RunBeginsOutsideMarkup text first.mode (part.Run s) second.span.start = subst (λ (p : Part). RunBeginsOutsideMarkup text first.mode p second.span.start) second_run b.run_begins_outside_markup in
+      let begins_here : BeginsOutsideMarkup mode.Data (drop second.span.start text) = subst (λ (x : Mode). BeginsOutsideMarkup x (drop second.span.start text)) leaves begins in
       absurd (both_ways (opens_markup (drop second.span.start text)) begins_here (ap (λ (n : ℕ). opens_markup (drop n text)) (sym same) ∙ ends within))
 ]

@@ -8,7 +8,7 @@ use Rattle.html_syntax.specs.References.{reference}
 use Rattle.html_syntax.specs.States.{Tag, keep, keep_flag, replace_null}
 use Rattle.html_syntax.specs.States.State.{TagName, BeforeName, AttributeName, AfterName, BeforeValue, QuotedValue, UnquotedValue, AfterValue, SelfClosing}
 use Rattle.html_syntax.specs.Tokenizer.{look, look_again, step, read, tokens_at_end}
-use Rattle.html_tokens.specs.Tags.{ended}
+use Rattle.html_tokens.specs.Tags.{tokens_after_tag}
 use Rattle.html_tokens.proofs.Runs.{reconsumed}
 use Rattle.html_tokens.proofs.Decoding.{Decodes}
 
@@ -52,12 +52,12 @@ pub before_solidus : (t : Tag) (text : List ℕ) → read (BeforeName t) 0 (47 �
 before_solidus t text = before_after_solidus t text ∙ closing_before t text
 
 emitted_end : (is_end : Bool) (name : List ℕ) (attributes : List Rattle.html_syntax.specs.Token.Attribute) (text : List ℕ)
-    → (let t : Tag = record { is_end = is_end; name = name; attributes = attributes } in read (SelfClosing t) 0 (62 ∷ text) ≡ ended t text)
+    → (let t : Tag = record { is_end = is_end; name = name; attributes = attributes } in read (SelfClosing t) 0 (62 ∷ text) ≡ tokens_after_tag t text)
 unfolding read step look_again look
 emitted_end true name attributes text = refl
 emitted_end false name attributes text = grind arith
 
-pub before_end : (t : Tag) (text : List ℕ) → read (BeforeName t) 0 (62 ∷ text) ≡ ended t text
+pub before_end : (t : Tag) (text : List ℕ) → read (BeforeName t) 0 (62 ∷ text) ≡ tokens_after_tag t text
 before_end t text = before_after_end t text ∙ sym (closing_end t text) ∙ emitted_end t.is_end t.name t.attributes text
 
 pub before_nil : (t : Tag) → read (BeforeName t) 0 [] ≡ []

@@ -10,9 +10,9 @@ use Rattle.html_syntax.specs.States.{Tag, replace_null, keep, keep_flag}
 use Rattle.html_syntax.specs.States.State.{BeforeName, AfterName, BeforeValue}
 use Rattle.html_syntax.specs.Tokenizer.{read}
 use Rattle.html_references.specs.Input.{input}
-use Rattle.html_tokens.specs.Scanned.{between}
-use Rattle.html_tokens.specs.Cuts.{Lacks, EndsBy}
-use Rattle.html_tokens.specs.Tags.{is_blank, belongs, value_read, begins_quoted, BeginsOutside, HoldsValue}
+use Rattle.html_tokens.specs.Scanned.{slice_between}
+use Rattle.html_tokens.specs.Cuts.{LacksByte, IsCutAt}
+use Rattle.html_tokens.specs.Tags.{is_blank, in_class, read_value, begins_quoted, BeginsOutside, ReadsValueAt}
 use Rattle.html_tokens.specs.declared.tags.Class.TheVariants as class
 use Rattle.html_references.proofs.Stops.{Stops, is_of_reference}
 use Rattle.html_tokens.proofs.Decoding.{decoded_run}
@@ -32,7 +32,7 @@ quote_input quote is bytes =
     let other : quote ≢ 13 = λ (e : quote ≡ 13). let x : (13 == 34 || 13 == 39) ≡ true = rw e at is in cc in
     input-cons quote bytes small other
 
-no_quote : (quote : ℕ) (bytes : List ℕ) → IsQuote quote → IsUtf8 bytes → Lacks quote bytes → list_all (λ c. not (c == quote)) (input bytes) ≡ true
+no_quote : (quote : ℕ) (bytes : List ℕ) → IsQuote quote → IsUtf8 bytes → LacksByte quote bytes → list_all (λ c. not (c == quote)) (input bytes) ≡ true
 no_quote quote bytes is utf8 lacks =
     all-input (λ c. not (c == quote)) (λ c big. grind (arith, nat_tests)) (λ h. grind (arith, nat_tests)) bytes utf8 lacks
 
@@ -43,32 +43,32 @@ quote_self : (quote : ℕ) → (quote == quote) ≡ true
 quote_self quote = grind (arith, nat_tests)
 
 -- the value and the quote after it
-closed : (quote : ℕ) (t : Tag) (n xs ys : List ℕ) → IsQuote quote → IsUtf8 xs → Lacks quote xs
-    → quoted quote t n [] 0 (input (xs ++ quote ∷ ys)) ≡ read (BeforeName (keep t n (value_read xs))) 0 (input ys)
+closed : (quote : ℕ) (t : Tag) (n xs ys : List ℕ) → IsQuote quote → IsUtf8 xs → LacksByte quote xs
+    → quoted quote t n [] 0 (input (xs ++ quote ∷ ys)) ≡ read (BeforeName (keep t n (read_value xs))) 0 (input ys)
 closed quote t n xs ys is utf8 lacks =
     let other : (38 == quote) ≡ false = grind (arith, nat_tests) in
     let marked : IsMarked (quote ∷ ys) = (grind (arith, nat_tests), λ (e : quote ≡ 10). let x : (10 == 34 || 10 == 39) ≡ true = rw e at is in cc) in
     ap (quoted quote t n [] 0) (input-append xs (quote ∷ ys) utf8 marked ∙ ap (λ (l : List ℕ). input xs ++ l) (quote_input quote is ys))
     ∙ decoded_run (quoted quote t n) true (λ c. not (c == quote)) replace_null (quoted_decodes quote other t n) [] (input xs) (quote ∷ input ys) (no_quote quote xs is utf8 lacks) (quote_stops quote is)
-    ∙ quoted_end quote t n (value_read xs) (input ys) (quote_self quote)
+    ∙ quoted_end quote t n (read_value xs) (input ys) (quote_self quote)
 
 -- a value whose quote is missing gives no tag
-unclosed : (quote : ℕ) (t : Tag) (n xs : List ℕ) → IsQuote quote → IsUtf8 xs → Lacks quote xs → quoted quote t n [] 0 (input xs) ≡ []
+unclosed : (quote : ℕ) (t : Tag) (n xs : List ℕ) → IsQuote quote → IsUtf8 xs → LacksByte quote xs → quoted quote t n [] 0 (input xs) ≡ []
 unclosed quote t n xs is utf8 lacks =
     let other : (38 == quote) ≡ false = grind (arith, nat_tests) in
     ap (quoted quote t n [] 0) (sym (append-nil (input xs)))
     ∙ decoded_run (quoted quote t n) true (λ c. not (c == quote)) replace_null (quoted_decodes quote other t n) [] (input xs) [] (no_quote quote xs is utf8 lacks) tt
-    ∙ quoted_nil quote t n (value_read xs)
+    ∙ quoted_nil quote t n (read_value xs)
 
-inner_ends : (quote : ℕ) (t : Tag) (n bytes : List ℕ) (len end : ℕ) → IsQuote quote → IsUtf8 bytes → IsCharBoundary bytes len → Lacks quote (take len bytes) → EndsBy quote bytes len end
-    → quoted quote t n [] 0 (input bytes) ≡ read (BeforeName (keep t n (value_read (take len bytes)))) 0 (input (drop end bytes))
+inner_ends : (quote : ℕ) (t : Tag) (n bytes : List ℕ) (len end : ℕ) → IsQuote quote → IsUtf8 bytes → IsCharBoundary bytes len → LacksByte quote (take len bytes) → IsCutAt quote bytes len end
+    → quoted quote t n [] 0 (input bytes) ≡ read (BeforeName (keep t n (read_value (take len bytes)))) 0 (input (drop end bytes))
 inner_ends quote t n bytes len end is utf8 at lacks (inl e) =
     ap (λ (l : List ℕ). quoted quote t n [] 0 (input l)) (sym (take-append-drop len bytes) ∙ ap (λ (l : List ℕ). take len bytes ++ l) e)
     ∙ closed quote t n (take len bytes) (drop end bytes) is (IsUtf8-take bytes len utf8 at) lacks
 inner_ends quote t n bytes len end is utf8 at lacks (inr e) =
     ap (λ (l : List ℕ). quoted quote t n [] 0 (input l)) (sym (take-append-drop len bytes) ∙ ap (λ (l : List ℕ). take len bytes ++ l) e.0 ∙ append-nil (take len bytes))
     ∙ unclosed quote t n (take len bytes) is (IsUtf8-take bytes len utf8 at) lacks
-    ∙ sym (ap (λ (l : List ℕ). read (BeforeName (keep t n (value_read (take len bytes)))) 0 (input l)) e.1 ∙ ap (read (BeforeName (keep t n (value_read (take len bytes)))) 0) input-nil ∙ before_nil (keep t n (value_read (take len bytes))))
+    ∙ sym (ap (λ (l : List ℕ). read (BeforeName (keep t n (read_value (take len bytes)))) 0 (input l)) e.1 ∙ ap (read (BeforeName (keep t n (read_value (take len bytes)))) 0) input-nil ∙ before_nil (keep t n (read_value (take len bytes))))
 
 one : (n : ℕ) → 1 + n ≡ suc n
 one n = omega arith
@@ -84,8 +84,8 @@ pub later_boundary : (rest : List ℕ) (n : ℕ) → IsUtf8 rest → begins_quot
 later_boundary [] n utf8 is at = absurd cc
 later_boundary (b ∷ bytes) n utf8 is at = IsCharBoundary-from_rest (b ∷ bytes) 1 n (omega arith) at
 
-pub in_quotes : (rest : List ℕ) (quote len end : ℕ) → IsUtf8 rest → begins_quoted rest ≡ true → quote ≡ get_or rest 0 0 → IsCharBoundary (drop 1 rest) len → Lacks quote (take len (drop 1 rest))
-    → EndsBy quote (drop 1 rest) len end → HoldsValue rest (record { start = 1; end = 1 + len; after = 1 + end })
+pub in_quotes : (rest : List ℕ) (quote len end : ℕ) → IsUtf8 rest → begins_quoted rest ≡ true → quote ≡ get_or rest 0 0 → IsCharBoundary (drop 1 rest) len → LacksByte quote (take len (drop 1 rest))
+    → IsCutAt quote (drop 1 rest) len end → ReadsValueAt rest (record { start = 1; end = 1 + len; after = 1 + end })
 in_quotes [] quote len end utf8 is e at lacks ends = absurd cc
 in_quotes (b ∷ bytes) quote len end utf8 is e at lacks ends = λ t n.
     let count : (1 + len) - 1 ≡ len = omega arith in
@@ -93,7 +93,7 @@ in_quotes (b ∷ bytes) quote len end utf8 is e at lacks ends = λ t n.
     rw (one end, count) (
     ap (read (BeforeValue t n) 0) (quote_input b is bytes)
     ∙ value_quote t n b (input bytes) is
-    ∙ inner_ends b t n bytes len end is tail at (subst (λ (q : ℕ). Lacks q (take len bytes)) e lacks) (subst (λ (q : ℕ). EndsBy q bytes len end) e ends))
+    ∙ inner_ends b t n bytes len end is tail at (subst (λ (q : ℕ). LacksByte q (take len bytes)) e lacks) (subst (λ (q : ℕ). IsCutAt q bytes len end) e ends))
 
 -- ---- without quotes
 
@@ -119,7 +119,7 @@ bare_begins t n (b ∷ bytes) utf8 outside other =
     let first = bare_first b outside other in
     at_first (read (BeforeValue t n) 0) (unquoted t n [] 0) is_bare (record { ends = value_nil t n; here = bare_here t n }) bare_wide first.1 b bytes utf8 first.0
 
-bare_stops : (bytes : List ℕ) → BeginsOutside (belongs class.UnquotedValue) bytes → Stops (input bytes)
+bare_stops : (bytes : List ℕ) → BeginsOutside (in_class class.UnquotedValue) bytes → Stops (input bytes)
 bare_stops [] h = rw input-nil tt
 bare_stops (b ∷ bytes) h = elim (cases_Bool (b == 13)) [
   | inl is ↦
@@ -132,33 +132,33 @@ bare_stops (b ∷ bytes) h = elim (cases_Bool (b == 13)) [
       rw (input-cons b bytes small no_return) (grind (arith, nat_tests))
 ]
 
-bare_class : IsWide (belongs class.UnquotedValue)
+bare_class : IsWide (in_class class.UnquotedValue)
 bare_class = record { wide = λ c big. grind (arith, nat_tests); no_return = refl }
 
-bare_leaves : Leaves (belongs class.UnquotedValue) (λ c. not (is_unquoted c))
+bare_leaves : Leaves (in_class class.UnquotedValue) (λ c. not (is_unquoted c))
 bare_leaves = record { small = λ b h. grind (arith, nat_tests); passes = λ b h other. grind (arith, nat_tests); feed = refl }
 
-bare_ends : (t : Tag) (n v bytes : List ℕ) → BeginsOutside (belongs class.UnquotedValue) bytes → unquoted t n v 0 (input bytes) ≡ read (BeforeName (keep t n v)) 0 (input bytes)
+bare_ends : (t : Tag) (n v bytes : List ℕ) → BeginsOutside (in_class class.UnquotedValue) bytes → unquoted t n v 0 (input bytes) ≡ read (BeforeName (keep t n v)) 0 (input bytes)
 bare_ends t n v bytes outside =
-    at_stop (unquoted t n v 0) (read (BeforeName (keep t n v)) 0) (belongs class.UnquotedValue) (λ c. not (is_unquoted c))
+    at_stop (unquoted t n v 0) (read (BeforeName (keep t n v)) 0) (in_class class.UnquotedValue) (λ c. not (is_unquoted c))
     (record { ends = unquoted_nil t n v; here = λ c text h. unquoted_stops t n v c text (grind (arith, nat_tests)) }) bare_leaves bytes outside
 
-pub bare_boundary : (rest : List ℕ) → IsCharBoundary rest (prefix_len (belongs class.UnquotedValue) rest)
-bare_boundary rest = wide_boundary (belongs class.UnquotedValue) bare_class.wide rest
+pub bare_boundary : (rest : List ℕ) → IsCharBoundary rest (prefix_len (in_class class.UnquotedValue) rest)
+bare_boundary rest = wide_boundary (in_class class.UnquotedValue) bare_class.wide rest
 
-pub in_bare : (rest : List ℕ) (k : ℕ) → IsUtf8 rest → BeginsOutside is_blank rest → begins_quoted rest ≡ false → k ≡ prefix_len (belongs class.UnquotedValue) rest
-    → HoldsValue rest (record { start = 0; end = k; after = k })
+pub in_bare : (rest : List ℕ) (k : ℕ) → IsUtf8 rest → BeginsOutside is_blank rest → begins_quoted rest ≡ false → k ≡ prefix_len (in_class class.UnquotedValue) rest
+    → ReadsValueAt rest (record { start = 0; end = k; after = k })
 in_bare rest k utf8 outside other e = λ t n.
-    let len = prefix_len (belongs class.UnquotedValue) rest in
-    let c = cut (belongs class.UnquotedValue) bare_class rest utf8 in
+    let len = prefix_len (in_class class.UnquotedValue) rest in
+    let c = cut (in_class class.UnquotedValue) bare_class rest utf8 in
     let count : len - 0 ≡ len = omega arith in
-    let ended = prefix_outside (belongs class.UnquotedValue) rest in
+    let ended = prefix_outside (in_class class.UnquotedValue) rest in
     rw (e, count) (
     bare_begins t n rest utf8 outside other
     ∙ ap (unquoted t n [] 0) c.is
     ∙ decoded_run (unquoted t n) true is_unquoted replace_null (unquoted_decodes t n) [] (input (take len rest)) (input (drop len rest))
-    (weaker (belongs class.UnquotedValue) is_unquoted (λ b h. grind (arith, nat_tests)) (input (take len rest)) c.all) (bare_stops (drop len rest) ended)
-    ∙ bare_ends t n (value_read (take len rest)) (drop len rest) ended)
+    (weaker (in_class class.UnquotedValue) is_unquoted (λ b h. grind (arith, nat_tests)) (input (take len rest)) c.all) (bare_stops (drop len rest) ended)
+    ∙ bare_ends t n (read_value (take len rest)) (drop len rest) ended)
 
 -- ---- white space before it
 
@@ -168,19 +168,19 @@ space_small b h = grind (arith, nat_tests)
 spaces_small : IsSmall is_space
 spaces_small b h = grind (arith, nat_tests)
 
-pub between_later : (rest : List ℕ) (at start end : ℕ) → between start end (drop at rest) ≡ between (at + start) (at + end) rest
+pub between_later : (rest : List ℕ) (at start end : ℕ) → slice_between start end (drop at rest) ≡ slice_between (at + start) (at + end) rest
 between_later rest at start end =
     let count : end - start ≡ (at + end) - (at + start) = omega arith in
     ap (λ (k : ℕ). take k (drop start (drop at rest))) count ∙ ap (take ((at + end) - (at + start))) (drop-drop start at rest)
 
-pub value_later : (rest : List ℕ) (at start end after : ℕ) → IsUtf8 rest → at ≡ prefix_len is_blank rest → HoldsValue (drop at rest) (record { start = start; end = end; after = after })
-    → HoldsValue rest (record { start = at + start; end = at + end; after = at + after })
+pub value_later : (rest : List ℕ) (at start end after : ℕ) → IsUtf8 rest → at ≡ prefix_len is_blank rest → ReadsValueAt (drop at rest) (record { start = start; end = end; after = after })
+    → ReadsValueAt rest (record { start = at + start; end = at + end; after = at + after })
 value_later rest at start end after utf8 e holds = λ t n.
     passed (BeforeValue t n) is_space (value_space t n) refl spaces_small rest utf8
     ∙ ap (λ (k : ℕ). read (BeforeValue t n) 0 (input (drop k rest))) (sym e)
     ∙ holds t n
-    ∙ ap (λ (l : List ℕ). read (BeforeName (keep t n (value_read l))) 0 (input (drop after (drop at rest)))) (between_later rest at start end)
-    ∙ ap (λ (l : List ℕ). read (BeforeName (keep t n (value_read (between (at + start) (at + end) rest)))) 0 (input l)) (drop-drop after at rest)
+    ∙ ap (λ (l : List ℕ). read (BeforeName (keep t n (read_value l))) 0 (input (drop after (drop at rest)))) (between_later rest at start end)
+    ∙ ap (λ (l : List ℕ). read (BeforeName (keep t n (read_value (slice_between (at + start) (at + end) rest)))) 0 (input l)) (drop-drop after at rest)
 
 -- ---- the `=` before it
 

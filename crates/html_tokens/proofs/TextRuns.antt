@@ -12,7 +12,7 @@ use Rattle.html_syntax.specs.States.Action.{ReconsumeIn}
 use Rattle.html_syntax.specs.Tokenizer.{look, look_again, step, read, tokens_at_end, chars}
 use Rattle.html_references.specs.Input.{input, decode_references}
 use Rattle.html_tokens.specs.Scanned.{opens_markup}
-use Rattle.html_tokens.specs.Cuts.{Lacks, BeginsWith}
+use Rattle.html_tokens.specs.Cuts.{LacksByte, BeginsWithByte}
 use Rattle.html_tokens.proofs.Runs.{emits, emits-more, reconsumed}
 use Rattle.html_references.proofs.Stops.{Stops}
 use Rattle.html_tokens.proofs.Marks.{Marks, begins_marked}
@@ -103,14 +103,14 @@ less_alone (b ∷ d ∷ rest) utf8 h = other_byte b (d ∷ rest) utf8 (grind (ar
 input-less : (text : List ℕ) → input (60 ∷ text) ≡ 60 ∷ input text
 input-less text = input-cons 60 text (omega arith) (λ (e : 60 ≡ 13). omega arith)
 
-pub less_stops : (text : List ℕ) → BeginsWith 60 text → Stops (input text)
+pub less_stops : (text : List ℕ) → BeginsWithByte 60 text → Stops (input text)
 less_stops [] h = rw input-nil tt
 less_stops (b ∷ text) h = rw (h, input-less text) refl
 
-pub all_plain : (bytes : List ℕ) → IsUtf8 bytes → Lacks 60 bytes → list_all is_plain (input bytes) ≡ true
+pub all_plain : (bytes : List ℕ) → IsUtf8 bytes → LacksByte 60 bytes → list_all is_plain (input bytes) ≡ true
 all_plain bytes utf8 h = all-input is_plain (λ c big. grind (arith, nat_tests)) (λ _. refl) bytes utf8 h
 
-data_piece : (kept xs ys : List ℕ) → IsUtf8 xs → Lacks 60 xs → BeginsWith 60 ys → emits Data kept 0 (input (xs ++ ys)) ≡ emits Data (kept ++ text_of (input xs)) 0 (input ys)
+data_piece : (kept xs ys : List ℕ) → IsUtf8 xs → LacksByte 60 xs → BeginsWithByte 60 ys → emits Data kept 0 (input (xs ++ ys)) ≡ emits Data (kept ++ text_of (input xs)) 0 (input ys)
 data_piece kept xs ys utf8 lacks begins =
     ap (emits Data kept 0) (input-append xs ys utf8 (begins_marked 60 (omega arith) (λ (e : 60 ≡ 10). omega arith) ys begins))
     ∙ decoded_run (emits Data) false is_plain (λ c. c) data_decodes kept (input xs) (input ys) (all_plain xs utf8 lacks) (less_stops ys begins)

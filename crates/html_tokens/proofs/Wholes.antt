@@ -7,13 +7,13 @@ use Rattle.html_tokens.specs.declared.mode.Mode.TheVariants as mode
 use Rattle.html_syntax.specs.Held.{meaning, meanings}
 use Rattle.html_syntax.specs.Tokenizer.{tokens}
 use Rattle.html_references.specs.Input.{input}
-use Rattle.html_tokens.specs.Scanned.{Place, left}
+use Rattle.html_tokens.specs.Scanned.{ScannerState, tokens_left}
 
-whole : (text : List ℕ) → left (record { text = text; at = 0; mode = mode.Data }) ≡ tokens (chars text)
+whole : (text : List ℕ) → tokens_left (record { text = text; at = 0; mode = mode.Data }) ≡ tokens (chars text)
 unfolding tokens input
 whole text = refl
 
-pub left_at_start : (p : Place) (text : List ℕ) → p.text ≡ text → p.at ≡ 0 → p.mode ≡ mode.Data → left p ≡ tokens (chars text)
+pub left_at_start : (p : ScannerState) (text : List ℕ) → p.text ≡ text → p.at ≡ 0 → p.mode ≡ mode.Data → tokens_left p ≡ tokens (chars text)
 left_at_start p text t a m = rw (t, a, m) (whole text)
 
 pub meanings-push : (ts : List HeldToken) (t : HeldToken) → meanings (ts ++ t ∷ []) ≡ meanings ts ++ meaning t

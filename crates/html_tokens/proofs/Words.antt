@@ -6,7 +6,7 @@ use Rattle.std.specs.List.{list_all}
 use Rattle.std.specs.Str.{bytes_eq}
 use Rattle.html_syntax.specs.Characters.{lower}
 use Rattle.html_syntax.specs.States.{replace_null}
-use Rattle.html_tokens.specs.Tags.{name_read, is_lowered}
+use Rattle.html_tokens.specs.Tags.{read_name, is_lowered}
 use Rattle.html_references.proofs.Stretches.{input-nil, input-cons, input-first, utf8_tail}
 use Rattle.html_tokens.proofs.TagRuns.{head_return}
 
@@ -28,7 +28,7 @@ returned x h = (grind (arith, nat_tests), grind (arith, nat_tests))
 wide_other : (x b : ℕ) → is_lowered x ≡ true → 128 ≤ b → (lower b == lower x) ≡ false
 wide_other x b h big = grind (arith, nat_tests)
 
-pub word_read : (word bytes : List ℕ) → list_all is_lowered word ≡ true → IsUtf8 bytes → bytes_eq (map lower bytes) (map lower word) ≡ bytes_eq (name_read bytes) word
+pub word_read : (word bytes : List ℕ) → list_all is_lowered word ≡ true → IsUtf8 bytes → bytes_eq (map lower bytes) (map lower word) ≡ bytes_eq (read_name bytes) word
 word_read [] [] h utf8 = rw input-nil refl
 word_read [] (b ∷ bytes) h utf8 =
     let f = input-first (λ c. true) (λ c big. refl) (λ h. refl) b bytes utf8 refl in

@@ -1,38 +1,38 @@
-//! The texts of tags and of their attributes.
+//! The names and attributes of tags.
 ghost use Rattle.std.specs.Prelude.{◌≡◌, ◌≤◌, List, [], ◌∷◌, ◌++◌, chars, string_bytes, map, IfOk, OnOk, IsCharBoundary};
 ghost use Rattle.html_syntax.specs.Token.{attribute_of};
 ghost use Rattle.html_syntax.specs.States.{has_name};
-ghost use Rattle.html_tokens.specs.Tags.{name_read, kept_among, attribute_at, GivesTag, ReadsUpTo};
+ghost use Rattle.html_tokens.specs.Tags.{read_name, add_attribute, attribute_at, ReadsAttributes, ReadsUpTo};
 
 use crate::Memory;
 use crate::name_set::NameSet;
-use crate::tags::{AttributePlace, attribute, begins_attribute, gap};
+use crate::tags::{AttributePlace, attribute, begins_attribute, gap_len};
 use html_references::stretch::{ReadAs, read_stretch};
 use html_syntax::Attributes;
 use mail_values::Text;
 use std::alloc::Global;
 use std::marker::Model;
 
-/// A name: ASCII letters lowered, U+0000 as U+FFFD.
+/// Returns a name: ASCII letters lowered, U+0000 as U+FFFD.
 fn name_text(alloc: Global, name: &str) -> Result<String, Memory>
-    ensures { IfOk result (λ t. chars (string_bytes t) ≡ name_read name.now) }
+    ensures { IfOk result (λ t. chars (string_bytes t) ≡ read_name name.now) }
 {
     let mut text = read_stretch(alloc, ReadAs::Raw, name)?;
     text.make_ascii_lowercase();
     Ok(text)
 }
 
-/// The name of a tag as it is read: ASCII letters lowered, U+0000 as U+FFFD.
+/// Returns the name of a tag: ASCII letters lowered, U+0000 as U+FFFD.
 pub fn tag_name(alloc: Global, name: &str) -> Result<Text, Memory>
-    ensures { IfOk result (λ t. chars t ≡ name_read name.now) }
+    ensures { IfOk result (λ t. chars t ≡ read_name name.now) }
 {
     Ok(Text::from_string(name_text(alloc, name)?))
 }
 
-/// So many names are looked through one by one. A tag with more has all its names in a set.
+/// Up to this number, a new name is compared with each name before it. A tag with more attributes has a set of their names.
 const FEW: usize = 16;
 
-/// Whether one of these attributes has the name.
+/// Whether one of the attributes has the name.
 fn is_among(pairs: &[(String, String)], name: &str) -> bool
     ensures { result ≡ has_name (chars name.now) (map attribute_of pairs.now) }
 {
@@ -44,7 +44,7 @@ fn is_among(pairs: &[(String, String)], name: &str) -> bool
     false
 }
 
-/// Adds the attribute that stands at this place of the text, if its name is new.
+/// Adds the attribute at a place of the text if its name is new.
 fn keep(
     alloc: Global,
     pairs: &mut Vec<(String, String)>,
@@ -55,7 +55,7 @@ fn keep(
     requires value { IsCharBoundary rest.now place.value }
     requires value_end { IsCharBoundary rest.now place.value_end }
     requires ordered { place.value ≤ place.value_end }
-    ensures { OnOk result (map attribute_of pairs.new.items ≡ kept_among (map attribute_of pairs.old.items) (attribute_at rest.now place)) }
+    ensures { OnOk result (map attribute_of pairs.new.items ≡ add_attribute (map attribute_of pairs.old.items) (attribute_at rest.now place)) }
 {
     let name = name_text(alloc, &rest[..place.name])?;
     if !is_among(pairs, name.as_str()) {
@@ -65,12 +65,12 @@ fn keep(
     Ok(())
 }
 
-/// The attributes of a tag whose name has been read, the first of each name. It probably has no more than so many.
+/// Attributes of a start tag, from just after its name; of duplicates the first wins. `expected` is a capacity hint.
 pub fn attributes(alloc: Global, rest: &str, expected: usize) -> Result<Attributes, Memory>
-    ensures { IfOk result (λ found. GivesTag rest.now found) }
+    ensures { IfOk result (λ found. ReadsAttributes rest.now found) }
 {
     let mut pairs = Vec::with_capacity(alloc, expected.min(FEW))?;
-    let mut at = gap(rest);
+    let mut at = gap_len(rest);
     while pairs.len() < FEW && begins_attribute(&rest[at..]) {
         let place = attribute(&rest[at..]);
         keep(alloc, &mut pairs, &rest[at..], place)?;
@@ -83,7 +83,7 @@ pub fn attributes(alloc: Global, rest: &str, expected: usize) -> Result<Attribut
     }
 }
 
-/// The attributes of a tag as far as it is read, the first of each name, and the set of their names.
+/// The attributes of a tag so far, the first of each name, with the set of their names.
 #[derive(Drop)]
 struct AttributeList {
     pairs: Vec<(String, String)>,
@@ -103,6 +103,7 @@ impl Model for AttributeList {
 }
 
 impl AttributeList {
+    /// Returns the attributes with the set of their names.
     fn of(alloc: Global, pairs: Vec<(String, String)>) -> Result<Self, Memory>
         ensures { IfOk result (λ list. list ≡ map attribute_of pairs.items) }
     {
@@ -113,13 +114,13 @@ impl AttributeList {
         Ok(AttributeList { pairs, names })
     }
 
-    /// With the attribute that stands at this place of the text, if its name is new.
+    /// Adds the attribute at a place of the text if its name is new.
     fn keep(self, alloc: Global, rest: &str, place: AttributePlace) -> Result<Self, Memory>
         requires name { IsCharBoundary rest.now place.name }
         requires value { IsCharBoundary rest.now place.value }
         requires value_end { IsCharBoundary rest.now place.value_end }
         requires ordered { place.value ≤ place.value_end }
-        ensures { IfOk result (λ list. list ≡ kept_among self (attribute_at rest.now place)) }
+        ensures { IfOk result (λ list. list ≡ add_attribute self (attribute_at rest.now place)) }
     {
         let AttributeList {
             mut pairs,
@@ -134,6 +135,7 @@ impl AttributeList {
         Ok(AttributeList { pairs, names })
     }
 
+    /// Returns the attributes.
     fn finish(self) -> Attributes
         ensures { result ≡ self }
     {
@@ -142,7 +144,7 @@ impl AttributeList {
     }
 }
 
-/// These attributes and those that stand from a place on.
+/// Returns the attributes that were read and those from an offset on.
 fn more_attributes(
     alloc: Global,
     pairs: Vec<(String, String)>,
@@ -150,7 +152,7 @@ fn more_attributes(
     from: usize,
 ) -> Result<Attributes, Memory>
     requires { ReadsUpTo rest.now from (map attribute_of pairs.items) }
-    ensures { IfOk result (λ found. GivesTag rest.now found) }
+    ensures { IfOk result (λ found. ReadsAttributes rest.now found) }
 {
     let mut list = AttributeList::of(alloc, pairs)?;
     let mut at = from;

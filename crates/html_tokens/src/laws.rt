@@ -1,8 +1,8 @@
 //! Laws of the scanner, each the contract of a function that does nothing.
-ghost use Rattle.html_tokens.specs.Stepping.{RunsStandApart};
+ghost use Rattle.html_tokens.specs.Stepping.{RunsAreSeparate};
 
-/// Where two spans that a scanner gives one after the other are runs of characters, the second does not begin where the first
-/// ends: `</>`, which gives nothing, stands between them.
-pub fn runs_stand_apart()
-    ensures { RunsStandApart }
+/// Proves that a run of characters is one span: if two spans one after the other are runs, the second begins after the end of the
+/// first. Between them is `</>`, which gives no token.
+pub fn runs_are_separate()
+    ensures { RunsAreSeparate }
 {}

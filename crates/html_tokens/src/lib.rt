@@ -1,6 +1,6 @@
-//! A scanner of HTML texts: the places of their tokens, and each token where it is asked for.
+//! A scanner of HTML texts. It returns the span of each token, and makes the token of a span on demand.
 //!
-//! What a text's tokens are is defined in the crate `html_syntax`, whose `Token` and `Attributes` this crate hands on.
+//! The crate `html_syntax` defines the tokens of a text. Its `Token` and `Attributes` are exported here too.
 #![tactic(auto)]
 
 mod attribute_list;
@@ -20,7 +20,7 @@ mod text;
 pub mod whole;
 
 pub use html_syntax::{Attributes, Memory, Token};
-pub use laws::runs_stand_apart;
+pub use laws::runs_are_separate;
 pub use scanner::Scanner;
 pub use span::Span;
 pub use whole::read_tokens;

@@ -1,11 +1,11 @@
-//! How a text is read from a place on.
+//! The modes of the scanner.
 ghost use Rattle.std.specs.Prelude.{◌≡◌, true};
 ghost use Rattle.std.specs.List.{list_all};
 ghost use Rattle.html_syntax.specs.States.{same, state_after_start};
 ghost use Rattle.html_tokens.specs.Scanned.{state_in};
-ghost use Rattle.html_tokens.specs.Tags.{name_read, is_lowered};
+ghost use Rattle.html_tokens.specs.Tags.{read_name, is_lowered};
 
-/// The content of an element in which few tags are read, by the element's name.
+/// The element whose content is RCDATA, RAWTEXT or script data.
 #[derive(Clone, Copy)]
 pub enum Content {
     Title,
@@ -18,7 +18,7 @@ pub enum Content {
     Script,
 }
 
-/// How a text is read from a place on.
+/// How the rest of a text is read.
 #[derive(Clone, Copy)]
 pub enum Mode {
     Data,
@@ -26,17 +26,17 @@ pub enum Mode {
     Plaintext,
 }
 
-/// Whether a tag's name in the text is this word of lower letters.
+/// Whether a tag's name is the word, whatever its case. The word is in lower case.
 fn is_word(name: &str, word: &str) -> bool
     requires { list_all is_lowered word.now ≡ true }
-    ensures { result ≡ same word.now (name_read name.now) }
+    ensures { result ≡ same word.now (read_name name.now) }
 {
     name.eq_ignore_ascii_case(word)
 }
 
-/// How the text is read after a start tag of this name.
+/// Returns the mode after a start tag of this name.
 pub fn mode_after(name: &str) -> Mode
-    ensures { state_in result ≡ state_after_start (name_read name.now) }
+    ensures { state_in result ≡ state_after_start (read_name name.now) }
 {
     if is_word(name, "title") {
         Mode::Inside(Content::Title)

@@ -1,23 +1,24 @@
-//! A set of names that no choice of names makes slow.
+//! A set of names for the attributes of one tag.
 //!
-//! A stranger chooses the names of a tag's attributes. Ordered search takes few comparisons for any of them, and needs no
-//! secret, as a hash table would. A short name is held as one number, so that to compare it follows no pointer. Names that
-//! count up, as those of a program do, have numbers that rise: those lie in one row, and need no tree.
+//! A stranger chooses these names. An ordered set makes a logarithmic number of comparisons for each, whatever they are; a hash table
+//! would need a secret seed. A name of up to fifteen bytes is held as one number, so that comparing it follows no pointer. Numbers that
+//! come in rising order are kept in a `Vec`. Millions of names in another order cost several times as much, since the tree doesn't
+//! fit a processor's cache.
 ghost use Rattle.std.specs.Prelude.{◌≡◌, ℕ, ◌<◌, ◌≤◌, List, true, false, not, ◌||◌, ◌==◌, ◌↔◌, length, IsTrue, IfOk, OnOk, OnErr};
 ghost use Rattle.std.specs.BTreeSet.{contains};
 ghost use Rattle.std.specs.List.Sorted.{IsNonDecreasing};
 ghost use Rattle.std.specs.Ordering.{nat_cmp};
 ghost use Rattle.std.specs.Str.{bytes_eq};
-ghost use Rattle.html_tokens.specs.PackedNames.{packed as number_of, ceiling};
+ghost use Rattle.html_tokens.specs.PackedNames.{pack, ceiling};
 
 use crate::Memory;
 use std::alloc::Global;
 use std::collections::BTreeSet;
 
-/// A name of so many bytes, with a one before them, fits one number.
+/// The greatest length in bytes of a name that is held as a number.
 const SHORT: usize = 15;
 
-/// Names, each of which is there or not.
+/// A set of names.
 #[derive(Drop)]
 pub struct NameSet {
     /// The numbers of short names that came in rising order, each greater than all before it.
@@ -30,10 +31,10 @@ pub struct NameSet {
     ghost below: { (n : ℕ) → contains nat_cmp short n ≡ true → n < ceiling rising.items },
 }
 
-/// The number of a short name: a one, and the bytes as digits after it.
-fn packed(name: &[u8]) -> u128
+/// Returns the number of a short name: the digit 1, and then each byte as a digit to base 256.
+fn pack(name: &[u8]) -> u128
     requires { length name.now ≤ 15 }
-    ensures { result ≡ number_of name.now }
+    ensures { result ≡ pack name.now }
 {
     let mut number: u128 = 1;
     for byte in name {
@@ -43,11 +44,11 @@ fn packed(name: &[u8]) -> u128
 }
 
 impl NameSet {
-    ghost use Rattle.html_tokens.specs.NameSets.{has, has_number};
+    ghost use Rattle.html_tokens.specs.NameSets.{contains_name, contains_number};
 
-    /// No names.
+    /// Returns the empty set.
     pub fn new(alloc: Global) -> NameSet
-        ensures { (q : List ℕ) → has result q ≡ false }
+        ensures { (q : List ℕ) → contains_name result q ≡ false }
     {
         NameSet {
             rising: Vec::new(alloc),
@@ -56,7 +57,7 @@ impl NameSet {
         }
     }
 
-    /// Whether the number is greater than each that came in rising order, and so than each of the others.
+    /// Whether the number is greater than each number of the set.
     fn is_greatest(&self, number: u128) -> bool
         ensures { IsTrue result ↔ ceiling self.now.rising.items ≤ number }
     {
@@ -66,12 +67,12 @@ impl NameSet {
         }
     }
 
-    /// Adds a short name by its number. The answer is whether it is a new one.
+    /// Adds the number of a short name, and returns whether it is new.
     fn insert_number(&mut self, number: u128) -> Result<bool, Memory>
-        ensures is_new { IfOk result (λ is_new. is_new ≡ not (has_number self.old number)) }
-        ensures numbers { OnOk result ((q : ℕ) → has_number self.new q ≡ (number == q || has_number self.old q)) }
+        ensures is_new { IfOk result (λ is_new. is_new ≡ not (contains_number self.old number)) }
+        ensures numbers { OnOk result ((q : ℕ) → contains_number self.new q ≡ (number == q || contains_number self.old q)) }
         ensures others { self.new.long ≡ self.old.long }
-        ensures err { OnErr result ((q : ℕ) → has_number self.new q ≡ has_number self.old q) }
+        ensures err { OnErr result ((q : ℕ) → contains_number self.new q ≡ contains_number self.old q) }
     {
         if self.is_greatest(number) {
             self.rising.push(number)?;
@@ -84,14 +85,14 @@ impl NameSet {
         Ok(is_new)
     }
 
-    /// Adds a name. The answer is whether it is a new one.
+    /// Adds a name, and returns whether it is new.
     pub fn insert(&mut self, alloc: Global, name: &str) -> Result<bool, Memory>
-        ensures is_new { IfOk result (λ is_new. is_new ≡ not (has self.old name.now)) }
-        ensures names { OnOk result ((q : List ℕ) → has self.new q ≡ (bytes_eq name.now q || has self.old q)) }
-        ensures err { OnErr result ((q : List ℕ) → has self.new q ≡ has self.old q) }
+        ensures is_new { IfOk result (λ is_new. is_new ≡ not (contains_name self.old name.now)) }
+        ensures names { OnOk result ((q : List ℕ) → contains_name self.new q ≡ (bytes_eq name.now q || contains_name self.old q)) }
+        ensures err { OnErr result ((q : List ℕ) → contains_name self.new q ≡ contains_name self.old q) }
     {
         if name.len() <= SHORT {
-            let number = packed(name.as_bytes());
+            let number = pack(name.as_bytes());
             let is_new = self.insert_number(number)?;
             Ok(is_new)
         } else {

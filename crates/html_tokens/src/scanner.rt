@@ -1,11 +1,11 @@
-//! A scanner that gives the places of tokens first, and a token only where it is asked for.
-ghost use Rattle.std.specs.Prelude.{◌≡◌, ◌≤◌, ◌++◌, [], true, zero, take, IfOk, IfSome, None, MatchOption, chars};
+//! The scanner: spans of tokens, and tokens on demand.
+ghost use Rattle.std.specs.Prelude.{◌≡◌, ◌≢◌, ◌≤◌, ◌++◌, [], true, zero, take, IfOk, IfSome, None, MatchOption, chars};
 ghost use Rattle.html_syntax.specs.States.State.{Data as InData};
 ghost use Rattle.html_syntax.specs.Tokenizer.{read};
 ghost use Rattle.html_syntax.specs.Held.{meaning};
 ghost use Rattle.html_references.specs.Input.{input, read_as as what_is_read};
-ghost use Rattle.html_tokens.specs.Scanned.{left, span_tokens, IsSpan, GivesToken, opens_start, opens_end};
-ghost use Rattle.html_tokens.specs.Stepping.{Passes, RunEnds, RunBegins, RunLeaves};
+ghost use Rattle.html_tokens.specs.Scanned.{tokens_left, span_tokens, IsSpan, GivesToken, opens_start, opens_end};
+ghost use Rattle.html_tokens.specs.Stepping.{SkipsNoToken, RunEndsAtMarkup, RunBeginsOutsideMarkup, RunLeavesData};
 ghost use Rattle.html_tokens.specs.declared.mode.Mode.TheVariants.{Data};
 
 use crate::attribute_list::{attributes, tag_name};
@@ -19,7 +19,8 @@ use mail_values::Text;
 use std::alloc::Global;
 use std::marker::Model;
 
-/// Reads a text token by token, seen as the text, the place up to which it is read, and what the last start tag has left.
+/// Splits a text into the spans of its tokens. It is seen as the text, the offset of the next byte, and the mode in which the rest is
+/// read.
 ///
 /// CR LF and CR are read as LF.
 #[derive(Drop)]
@@ -31,9 +32,9 @@ pub struct Scanner<'t> {
 
 impl<'t> Model for Scanner<'t> {
     ghost use Rattle.std.specs.Prelude.{IsCharBoundary};
-    ghost use Rattle.html_tokens.specs.Scanned.{Place};
+    ghost use Rattle.html_tokens.specs.Scanned.{ScannerState};
 
-    ghost Value = { Place };
+    ghost Value = { ScannerState };
 
     ghost view = { λ s. record { text = s.text.now; at = s.at; mode = s.mode } };
 
@@ -41,7 +42,7 @@ impl<'t> Model for Scanner<'t> {
 }
 
 impl<'t> Scanner<'t> {
-    /// Begins before the text's first token.
+    /// Returns a scanner before the text's first token.
     pub fn new(text: &'t str) -> Self
         ensures text { result.text ≡ text.now }
         ensures at { result.at ≡ 0 }
@@ -54,20 +55,22 @@ impl<'t> Scanner<'t> {
         }
     }
 
-    /// The place of the next token, and None exactly where no token is left. A run of characters is one span.
+    /// Returns the span of the next token; a run of characters is one span. `None` means that no token remains.
     ///
-    /// It takes no memory.
+    /// Each call splits the remaining tokens into the span's tokens, one at least, and the rest. It takes no memory.
     pub fn next(&mut self) -> Option<Span>
         ensures text { self.new.text ≡ self.old.text }
-        ensures reads { MatchOption result (left self.old ≡ []) (λ span. left self.old ≡ span_tokens self.old.text span ++ left self.new) }
-        ensures span { IfSome result (λ span. IsSpan self.old.text span) }
-        ensures before { IfSome result (λ span. self.old.at ≤ span.start) }
-        ensures passes { IfSome result (λ span. Passes self.old.text self.old.at self.old.mode span.start) }
-        ensures after { IfSome result (λ span. span.end ≡ self.new.at) }
-        ensures run_ends { IfSome result (λ span. RunEnds self.old.text span.part span.end) }
-        ensures run_begins { IfSome result (λ span. RunBegins self.old.text self.old.mode span.part span.start) }
-        ensures run_leaves { IfSome result (λ span. RunLeaves span.part self.new.mode) }
-        ensures none { result ≡ None → self.new ≡ self.old }
+        ensures reads { MatchOption result (tokens_left self.old ≡ []) (λ span. tokens_left self.old ≡ span_tokens self.old.text span ++ tokens_left self.new) }
+        ensures iff_none { MatchOption result (tokens_left self.old ≡ []) (λ span. tokens_left self.old ≢ []) }
+        ensures nonempty { IfSome result (λ span. span_tokens self.old.text span ≢ []) }
+        ensures is_span { IfSome result (λ span. IsSpan self.old.text span) }
+        ensures advances { IfSome result (λ span. self.old.at ≤ span.start) }
+        ensures skips_no_token { IfSome result (λ span. SkipsNoToken self.old.text self.old.at self.old.mode span.start) }
+        ensures ends_at_place { IfSome result (λ span. span.end ≡ self.new.at) }
+        ensures run_ends_at_markup { IfSome result (λ span. RunEndsAtMarkup self.old.text span.part span.end) }
+        ensures run_begins_outside_markup { IfSome result (λ span. RunBeginsOutsideMarkup self.old.text self.old.mode span.part span.start) }
+        ensures run_leaves_data { IfSome result (λ span. RunLeavesData span.part self.new.mode) }
+        ensures unchanged_on_none { result ≡ None → self.new ≡ self.old }
     {
         match step_at(self.text, self.at, self.mode) {
             None => None,
@@ -79,7 +82,7 @@ impl<'t> Scanner<'t> {
         }
     }
 
-    /// The token of a span, which this scanner has given.
+    /// Returns the token of a span that this scanner returned.
     pub fn token(&self, alloc: Global, span: &Span) -> Result<Token, Memory>
         requires { IsSpan self.now.text span.now }
         ensures { IfOk result (λ token. meaning token ≡ span_tokens self.now.text span.now) }
@@ -88,17 +91,17 @@ impl<'t> Scanner<'t> {
     }
 }
 
-/// An attribute usually takes at least so many bytes.
+/// The usual least length of an attribute in bytes.
 const USUAL_ATTRIBUTE: usize = 12;
 
-/// What a stretch of text is read as.
+/// Returns the characters of a stretch.
 fn stretch_token(alloc: Global, read_as: ReadAs, stretch: &str) -> Result<Text, Memory>
     ensures { IfOk result (λ text. chars text ≡ what_is_read read_as (input stretch.now)) }
 {
     Ok(Text::from_string(read_stretch(alloc, read_as, stretch)?))
 }
 
-/// The start tag that a text begins with, of so many bytes.
+/// Returns the start tag that a text begins with, of `len` bytes.
 fn start_token(alloc: Global, rest: &str, len: usize) -> Result<Token, Memory>
     requires opens { opens_start rest.now ≡ true }
     requires gives { GivesToken rest.now }
@@ -111,7 +114,7 @@ fn start_token(alloc: Global, rest: &str, len: usize) -> Result<Token, Memory>
     Ok(Token::Start { name, attributes })
 }
 
-/// The end tag that a text begins with.
+/// Returns the end tag that a text begins with.
 fn end_token(alloc: Global, rest: &str) -> Result<Token, Memory>
     requires opens { opens_end rest.now ≡ true }
     requires gives { GivesToken rest.now }
@@ -126,6 +129,7 @@ fn end_token(alloc: Global, rest: &str) -> Result<Token, Memory>
     }
 }
 
+/// Returns the token of a span.
 fn token_at(alloc: Global, text: &str, span: &Span) -> Result<Token, Memory>
     requires { IsSpan text.now span.now }
     ensures { IfOk result (λ token. meaning token ≡ span_tokens text.now span.now) }

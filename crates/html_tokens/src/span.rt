@@ -1,21 +1,21 @@
-//! Where a token stands in its text.
+//! Spans of tokens.
 ghost use Rattle.std.specs.Prelude.{◌≡◌, ◌+◌, ◌<◌, ◌≤◌, ◌^◌};
-ghost use Rattle.html_tokens.specs.Scanned.{part_bound, part_moved};
+ghost use Rattle.html_tokens.specs.Scanned.{part_bound, shift_part};
 
 use html_references::stretch::ReadAs;
 
-/// What a span holds.
+/// The kind of a span's token.
 #[derive(Clone, Copy)]
 pub enum Part {
     Run(ReadAs),
     StartTag,
     EndTag,
-    /// The comment's text stands from the first place up to the second.
+    /// A comment, with the start and the end of its text.
     Comment(usize, usize),
     Doctype,
 }
 
-/// Where a token stands in the text that a [`Scanner`](crate::Scanner) reads, in bytes.
+/// The span `[start, end)` of a token in the text of a [`Scanner`](crate::Scanner), in bytes.
 #[derive(Clone, Copy)]
 pub struct Span {
     pub(crate) start: usize,
@@ -24,10 +24,10 @@ pub struct Span {
 }
 
 impl Part {
-    // so many bytes further on
-    fn moved(self, by: usize) -> Part
+    // The same in a text that has `by` more bytes before it.
+    fn shift(self, by: usize) -> Part
         requires { by + part_bound self < 2 ^ 64 }
-        ensures { result ≡ part_moved by self }
+        ensures { result ≡ shift_part by self }
     {
         match self {
             Part::Comment(from, to) => Part::Comment(by + from, by + to),
@@ -37,19 +37,19 @@ impl Part {
 }
 
 impl Span {
-    // so many bytes further on
-    pub(crate) fn moved(self, by: usize) -> Span
+    // The same in a text that has `by` more bytes before it.
+    pub(crate) fn shift(self, by: usize) -> Span
         requires end { by + self.end < 2 ^ 64 }
         requires start { self.start ≤ self.end }
         requires part { by + part_bound self.part < 2 ^ 64 }
         ensures start { result.start ≡ by + self.start }
         ensures end { result.end ≡ by + self.end }
-        ensures part { result.part ≡ part_moved by self.part }
+        ensures part { result.part ≡ shift_part by self.part }
     {
         Span {
             start: by + self.start,
             end: by + self.end,
-            part: self.part.moved(by),
+            part: self.part.shift(by),
         }
     }
 }

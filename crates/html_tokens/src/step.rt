@@ -1,16 +1,16 @@
-//! The next token of what is left of a text.
+//! Steps from token to token.
 ghost use Rattle.std.specs.Prelude.{◌≡◌, ◌<◌, ◌+◌, [], true, false, drop, length, zero, IsCharBoundary, IfSome};
 ghost use Rattle.html_tokens.specs.Scanned.{opens_markup as opens, opens_start, opens_end};
-ghost use Rattle.html_tokens.specs.Openings.{begins_empty as is_empty_tag};
-ghost use Rattle.html_tokens.specs.Stepping.{Steps, StepsTo, Moves, run_step};
+ghost use Rattle.html_tokens.specs.Openings.{begins_empty_tag as is_empty_tag};
+ghost use Rattle.html_tokens.specs.Stepping.{IsNextStep, IsStepTo, IsNextStepAt, run_step};
 ghost use Rattle.html_syntax.specs.States.{new_tag};
 ghost use Rattle.html_syntax.specs.States.State.{Data, TagName, CommentStart, Bogus, DoctypeBody};
 ghost use Rattle.html_syntax.specs.Tokenizer.{read};
 ghost use Rattle.html_references.specs.Input.{input};
 ghost use Rattle.html_tokens.specs.declared.mode.Mode.TheVariants as mode;
 
-use crate::comments::{Ended, bogus_comment, comment, doctype_end};
-use crate::markup::{Opening, empty_len, what_opens};
+use crate::comments::{Cut, bogus_comment, comment, doctype_end};
+use crate::markup::{Opening, empty_tags_len, opening_at};
 use crate::mode::{Content, Mode, mode_after};
 use crate::raw::content_end;
 use crate::span::{Part, Span};
@@ -18,7 +18,7 @@ use crate::tags::{name_end, tag_end};
 use crate::text::{opens_markup, text_end};
 use html_references::stretch::ReadAs;
 
-/// A token's place, and how the text is read from which place after it.
+/// The span of a token, the offset after it, and the mode there.
 #[derive(Clone, Copy)]
 pub struct Step {
     pub span: Span,
@@ -26,12 +26,12 @@ pub struct Step {
     pub mode: Mode,
 }
 
-/// The step to a start tag that the text begins with. None where the text ends before the tag does.
+/// The step to the start tag that the text begins with. `None` if the text ends before the tag does.
 fn start_step(rest: &str) -> Option<Step>
     requires opens { opens_start rest.now ≡ true }
     requires boundary { IsCharBoundary rest.now 1 }
     requires reads { read Data 0 (input rest.now) ≡ read (TagName (new_tag false)) 0 (input (drop 1 rest.now)) }
-    ensures { Steps rest.now mode.Data result }
+    ensures { IsNextStep rest.now mode.Data result }
 {
     let inside = &rest[1..];
     let name_len = name_end(inside);
@@ -52,12 +52,12 @@ fn start_step(rest: &str) -> Option<Step>
     }
 }
 
-/// The same for an end tag.
+/// The step to the end tag that the text begins with. `None` if the text ends before the tag does.
 fn end_step(rest: &str) -> Option<Step>
     requires opens { opens_end rest.now ≡ true }
     requires boundary { IsCharBoundary rest.now 2 }
     requires reads { read Data 0 (input rest.now) ≡ read (TagName (new_tag true)) 0 (input (drop 2 rest.now)) }
-    ensures { Steps rest.now mode.Data result }
+    ensures { IsNextStep rest.now mode.Data result }
 {
     let inside = &rest[2..];
     let name_len = name_end(inside);
@@ -78,11 +78,11 @@ fn end_step(rest: &str) -> Option<Step>
     }
 }
 
-/// The step to a comment that begins with the text, after `<!--`.
+/// The step to the comment that the text begins with, whose first bytes are `<!--`.
 fn comment_step(rest: &str) -> Step
     requires boundary { IsCharBoundary rest.now 4 }
     requires reads { read Data 0 (input rest.now) ≡ read (CommentStart []) 0 (input (drop 4 rest.now)) }
-    ensures { StepsTo rest.now mode.Data result }
+    ensures { IsStepTo rest.now mode.Data result }
 {
     let found = comment(&rest[4..]);
     Step {
@@ -96,12 +96,12 @@ fn comment_step(rest: &str) -> Step
     }
 }
 
-/// The step to a bogus comment that begins with the text, whose own text begins at this place.
+/// The step to the bogus comment that the text begins with. Its own text begins at `from`.
 fn bogus_step(rest: &str, from: usize) -> Step
-    requires some { 0 < from }
+    requires nonempty { 0 < from }
     requires boundary { IsCharBoundary rest.now from }
     requires reads { read Data 0 (input rest.now) ≡ read (Bogus []) 0 (input (drop from rest.now)) }
-    ensures { StepsTo rest.now mode.Data result }
+    ensures { IsStepTo rest.now mode.Data result }
 {
     let found = bogus_comment(&rest[from..]);
     Step {
@@ -115,11 +115,11 @@ fn bogus_step(rest: &str, from: usize) -> Step
     }
 }
 
-/// The step to a DOCTYPE that begins with the text.
+/// The step to the DOCTYPE that the text begins with.
 fn doctype_step(rest: &str) -> Step
     requires boundary { IsCharBoundary rest.now 9 }
     requires reads { read Data 0 (input rest.now) ≡ read DoctypeBody 0 (input (drop 9 rest.now)) }
-    ensures { StepsTo rest.now mode.Data result }
+    ensures { IsStepTo rest.now mode.Data result }
 {
     let end = 9 + doctype_end(&rest[9..]);
     Step {
@@ -133,13 +133,13 @@ fn doctype_step(rest: &str) -> Step
     }
 }
 
-/// The step to the tag, the comment or the DOCTYPE with which the text begins.
+/// The step to the tag, comment or DOCTYPE that the text begins with.
 fn markup_step(rest: &str) -> Option<Step>
     requires opens { opens rest.now ≡ true }
-    requires some { is_empty_tag rest.now ≡ false }
-    ensures { Steps rest.now mode.Data result }
+    requires nonempty { is_empty_tag rest.now ≡ false }
+    ensures { IsNextStep rest.now mode.Data result }
 {
-    match what_opens(rest) {
+    match opening_at(rest) {
         Opening::StartTag => start_step(rest),
         Opening::EndTag => end_step(rest),
         Opening::Comment => Some(comment_step(rest)),
@@ -149,7 +149,7 @@ fn markup_step(rest: &str) -> Option<Step>
     }
 }
 
-/// The step to a run of characters up to a place, which is read like this.
+/// The step to a run of characters up to `end`.
 fn run_step(read_as: ReadAs, end: usize) -> Step
     ensures { result ≡ run_step read_as end }
 {
@@ -164,10 +164,10 @@ fn run_step(read_as: ReadAs, end: usize) -> Step
     }
 }
 
-/// The next step in a text that does not begin with `</>`.
+/// The next step in a text that doesn't begin with `</>`.
 fn front_step(rest: &str) -> Option<Step>
     requires { is_empty_tag rest.now ≡ false }
-    ensures { Steps rest.now mode.Data result }
+    ensures { IsNextStep rest.now mode.Data result }
 {
     if rest.is_empty() {
         None
@@ -178,34 +178,34 @@ fn front_step(rest: &str) -> Option<Step>
     }
 }
 
-/// A step in what is left of a text from a place on, as a step in the text.
-fn moved(text: &str, at: usize, mode: Mode, step: Option<Step>) -> Option<Step>
+/// Returns a step in the rest of a text as a step in the text.
+fn step_in_text(text: &str, at: usize, mode: Mode, step: Option<Step>) -> Option<Step>
     requires boundary { IsCharBoundary text.now at }
-    requires steps { Steps (drop at text.now) mode step }
-    ensures { Moves text.now at mode result }
+    requires steps { IsNextStep (drop at text.now) mode step }
+    ensures { IsNextStepAt text.now at mode result }
 {
     match step {
         None => None,
         Some(step) => Some(Step {
-            span: step.span.moved(at),
+            span: step.span.shift(at),
             at: at + step.at,
             mode: step.mode,
         }),
     }
 }
 
-/// The next step from a place on in text between tags.
+/// The next step from an offset on in data mode.
 fn data_step(text: &str, at: usize) -> Option<Step>
     requires { IsCharBoundary text.now at }
-    ensures { Moves text.now at mode.Data result }
+    ensures { IsNextStepAt text.now at mode.Data result }
 {
-    let passed = at + empty_len(&text[at..]);
-    moved(text, passed, Mode::Data, front_step(&text[passed..]))
+    let passed = at + empty_tags_len(&text[at..]);
+    step_in_text(text, passed, Mode::Data, front_step(&text[passed..]))
 }
 
-/// The step to the rest of a text that is all characters.
+/// The step to the end of plaintext.
 fn plain_step(rest: &str) -> Option<Step>
-    ensures { Steps rest.now mode.Plaintext result }
+    ensures { IsNextStep rest.now mode.Plaintext result }
 {
     if rest.is_empty() {
         None
@@ -214,28 +214,28 @@ fn plain_step(rest: &str) -> Option<Step>
     }
 }
 
-/// The next step in the content of an element.
+/// The next step from an offset on in the content of an element.
 fn content_step(text: &str, at: usize, content: Content) -> Option<Step>
     requires { IsCharBoundary text.now at }
-    ensures { Moves text.now at (mode.Inside content) result }
+    ensures { IsNextStepAt text.now at (mode.Inside content) result }
 {
     let end = content_end(content, &text[at..]);
     if end > 0 {
         let run = Some(run_step(content.read_as(), end));
-        moved(text, at, Mode::Inside(content), run)
+        step_in_text(text, at, Mode::Inside(content), run)
     } else {
         data_step(text, at)
     }
 }
 
-/// The next step from a place on.
+/// The next step from an offset on.
 pub fn step_at(text: &str, at: usize, mode: Mode) -> Option<Step>
     requires { IsCharBoundary text.now at }
-    ensures { Moves text.now at mode result }
+    ensures { IsNextStepAt text.now at mode result }
 {
     match mode {
         Mode::Data => data_step(text, at),
         Mode::Inside(content) => content_step(text, at, content),
-        Mode::Plaintext => moved(text, at, mode, plain_step(&text[at..])),
+        Mode::Plaintext => step_in_text(text, at, mode, plain_step(&text[at..])),
     }
 }

@@ -6,17 +6,17 @@ ghost use Rattle.html_syntax.specs.States.{Tag, keep, keep_flag};
 ghost use Rattle.html_syntax.specs.States.State.{TagName, BeforeName, AfterName, BeforeValue};
 ghost use Rattle.html_syntax.specs.Tokenizer.{read};
 ghost use Rattle.html_references.specs.Input.{input};
-ghost use Rattle.html_tokens.specs.Scanned.{between};
+ghost use Rattle.html_tokens.specs.Scanned.{slice_between};
 ghost use Rattle.html_tokens.specs.declared.tags.Class.TheVariants.{Gap};
-ghost use Rattle.html_tokens.specs.Tags.{belongs, is_blank, name_read, BeginsOutside, BeginsAttribute, EndsTag, begins_quoted, HoldsValue, FindsValue, HoldsAttribute, EndsAfter, named_by, with_attributes, ended};
+ghost use Rattle.html_tokens.specs.Tags.{in_class, is_blank, read_name, BeginsOutside, BeginsAttribute, EndsTag, begins_quoted, ReadsValueAt, ReadsEqualsBefore, ReadsAttributeAt, TagEndsAfter, extend_name, with_attributes, tokens_after_tag};
 
-use crate::comments::ended_by;
+use crate::comments::cut_at_byte;
 
-/// Bytes that stand side by side in a tag.
+/// A class of bytes in a tag.
 #[derive(Clone, Copy)]
 pub enum Class {
     TagName,
-    /// What stands before an attribute's name: white space and `/`.
+    /// White space and `/`, before an attribute's name.
     Gap,
     AttributeName,
     Space,
@@ -24,8 +24,9 @@ pub enum Class {
 }
 
 impl Class {
-    fn has(self, byte: u8) -> bool
-        ensures { result ≡ belongs self byte }
+    /// Whether the byte is in the class.
+    fn in_class(self, byte: u8) -> bool
+        ensures { result ≡ in_class self byte }
     {
         let space = byte == b'\t' || byte == b'\n' || byte == 0x0C || byte == b' ';
         let blank = space || byte == b'\r';
@@ -39,14 +40,14 @@ impl Class {
     }
 }
 
-/// How many bytes of the class a text begins with.
-fn front(class: Class, bytes: &[u8]) -> usize
-    ensures value { result ≡ prefix_len (belongs class) bytes.now }
+/// The length of the prefix whose bytes are in the class.
+fn prefix_len(class: Class, bytes: &[u8]) -> usize
+    ensures value { result ≡ prefix_len (in_class class) bytes.now }
     ensures bound { result ≤ length bytes.now }
 {
     let mut count = 0;
     for c in bytes {
-        if !class.has(*c) {
+        if !class.in_class(*c) {
             break;
         }
         count += 1;
@@ -54,25 +55,25 @@ fn front(class: Class, bytes: &[u8]) -> usize
     count
 }
 
-/// Where the name of a tag ends that a text begins with.
+/// The length of the tag's name that a text begins with.
 pub fn name_end(rest: &str) -> usize
     ensures boundary { IsCharBoundary rest.now result }
-    ensures reads { (tag : Tag) → read (TagName tag) 0 (input rest.now) ≡ read (BeforeName (named_by tag (input (take result rest.now)))) 0 (input (drop result rest.now)) }
+    ensures reads { (tag : Tag) → read (TagName tag) 0 (input rest.now) ≡ read (BeforeName (extend_name tag (input (take result rest.now)))) 0 (input (drop result rest.now)) }
 {
-    front(Class::TagName, rest.as_bytes())
+    prefix_len(Class::TagName, rest.as_bytes())
 }
 
-/// Where the name of an attribute ends that a text begins with. A `=` may be its first character.
+/// The length of the attribute's name that a text begins with. Its first character may be a `=`.
 fn attribute_name_end(rest: &str) -> usize
     requires { BeginsAttribute rest.now }
     ensures boundary { IsCharBoundary rest.now result }
-    ensures some { 0 < result }
-    ensures reads { (tag : Tag) → read (BeforeName tag) 0 (input rest.now) ≡ read (AfterName tag (name_read (take result rest.now))) 0 (input (drop result rest.now)) }
+    ensures nonempty { 0 < result }
+    ensures reads { (tag : Tag) → read (BeforeName tag) 0 (input rest.now) ≡ read (AfterName tag (read_name (take result rest.now))) 0 (input (drop result rest.now)) }
 {
-    1 + front(Class::AttributeName, &rest.as_bytes()[1..])
+    1 + prefix_len(Class::AttributeName, &rest.as_bytes()[1..])
 }
 
-/// Where an attribute's value stands in a text, and the place after it and its quotes.
+/// The place of an attribute's value: its start and end, and the offset after its quotes.
 #[derive(Clone, Copy)]
 pub struct ValuePlace {
     pub start: usize,
@@ -80,6 +81,7 @@ pub struct ValuePlace {
     pub after: usize,
 }
 
+/// Whether the text begins with a quotation mark or an apostrophe.
 fn is_quoted(rest: &str) -> bool
     ensures { result ≡ begins_quoted rest.now }
 {
@@ -89,17 +91,17 @@ fn is_quoted(rest: &str) -> bool
     }
 }
 
-/// A value in quotes. Without a second quote it takes the whole text.
+/// The place of the quoted value that the text begins with. Without a second quote it is the rest of the text.
 fn quoted_value(rest: &str) -> ValuePlace
     requires { begins_quoted rest.now ≡ true }
     ensures start { IsCharBoundary rest.now result.start }
     ensures end { IsCharBoundary rest.now result.end }
     ensures after { IsCharBoundary rest.now result.after }
     ensures ordered { result.start ≤ result.end }
-    ensures reads { HoldsValue rest.now result }
+    ensures reads { ReadsValueAt rest.now result }
 {
     let quote = rest.as_bytes()[0];
-    let inner = ended_by(quote, &rest[1..]);
+    let inner = cut_at_byte(quote, &rest[1..]);
     ValuePlace {
         start: 1,
         end: 1 + inner.len,
@@ -107,17 +109,17 @@ fn quoted_value(rest: &str) -> ValuePlace
     }
 }
 
-/// A value without quotes.
-fn bare_value(rest: &str) -> ValuePlace
+/// The place of the unquoted value that the text begins with.
+fn unquoted_value(rest: &str) -> ValuePlace
     requires unspaced { BeginsOutside is_blank rest.now }
     requires unquoted { begins_quoted rest.now ≡ false }
     ensures start { IsCharBoundary rest.now result.start }
     ensures end { IsCharBoundary rest.now result.end }
     ensures after { IsCharBoundary rest.now result.after }
     ensures ordered { result.start ≤ result.end }
-    ensures reads { HoldsValue rest.now result }
+    ensures reads { ReadsValueAt rest.now result }
 {
-    let len = front(Class::UnquotedValue, rest.as_bytes());
+    let len = prefix_len(Class::UnquotedValue, rest.as_bytes());
     ValuePlace {
         start: 0,
         end: len,
@@ -125,32 +127,32 @@ fn bare_value(rest: &str) -> ValuePlace
     }
 }
 
-/// A value in quotes or without.
-fn value_here(rest: &str) -> ValuePlace
+/// The place of the value that the text begins with.
+fn value_at_start(rest: &str) -> ValuePlace
     requires { BeginsOutside is_blank rest.now }
     ensures start { IsCharBoundary rest.now result.start }
     ensures end { IsCharBoundary rest.now result.end }
     ensures after { IsCharBoundary rest.now result.after }
     ensures ordered { result.start ≤ result.end }
-    ensures reads { HoldsValue rest.now result }
+    ensures reads { ReadsValueAt rest.now result }
 {
     if is_quoted(rest) {
         quoted_value(rest)
     } else {
-        bare_value(rest)
+        unquoted_value(rest)
     }
 }
 
-/// The value after a `=`.
-fn value_place(rest: &str) -> ValuePlace
+/// The place of the value, in the text after its `=`.
+fn value_after_equals(rest: &str) -> ValuePlace
     ensures start { IsCharBoundary rest.now result.start }
     ensures end { IsCharBoundary rest.now result.end }
     ensures after { IsCharBoundary rest.now result.after }
     ensures ordered { result.start ≤ result.end }
-    ensures reads { HoldsValue rest.now result }
+    ensures reads { ReadsValueAt rest.now result }
 {
-    let at = front(Class::Space, rest.as_bytes());
-    let place = value_here(&rest[at..]);
+    let at = prefix_len(Class::Space, rest.as_bytes());
+    let place = value_at_start(&rest[at..]);
     ValuePlace {
         start: at + place.start,
         end: at + place.end,
@@ -158,12 +160,12 @@ fn value_place(rest: &str) -> ValuePlace
     }
 }
 
-/// The place after the `=` that follows an attribute's name. None where the attribute has no value.
-fn past_equals(rest: &str) -> Option<usize>
+/// The offset after the `=`, in the text after an attribute's name. `None` if the attribute has no value.
+fn skip_equals(rest: &str) -> Option<usize>
     ensures boundary { IfSome result (λ n. IsCharBoundary rest.now n) }
-    ensures reads { FindsValue rest.now result }
+    ensures reads { ReadsEqualsBefore rest.now result }
 {
-    let at = front(Class::Space, rest.as_bytes());
+    let at = prefix_len(Class::Space, rest.as_bytes());
     if at < rest.len() && rest.as_bytes()[at] == b'=' {
         Some(at + 1)
     } else {
@@ -171,8 +173,8 @@ fn past_equals(rest: &str) -> Option<usize>
     }
 }
 
-/// Where an attribute stands in a text that begins with its name: where the name ends, where the value begins and ends, and
-/// where the next attribute begins or the tag ends.
+/// The place of an attribute in a text that begins with its name: the end of the name, the start and the end of the value, and the
+/// offset of the next attribute or of the tag's end.
 #[derive(Clone, Copy)]
 pub struct AttributePlace {
     pub name: usize,
@@ -181,19 +183,19 @@ pub struct AttributePlace {
     pub end: usize,
 }
 
-/// The attribute with which a text begins.
-fn attribute_here(rest: &str) -> AttributePlace
+/// The place of the attribute that a text begins with, up to the end of its value.
+fn attribute_alone(rest: &str) -> AttributePlace
     requires { BeginsAttribute rest.now }
     ensures name { IsCharBoundary rest.now result.name }
     ensures value { IsCharBoundary rest.now result.value }
     ensures value_end { IsCharBoundary rest.now result.value_end }
     ensures end { IsCharBoundary rest.now result.end }
     ensures ordered { result.value ≤ result.value_end }
-    ensures some { 0 < result.end }
-    ensures reads { HoldsAttribute rest.now result }
+    ensures nonempty { 0 < result.end }
+    ensures reads { ReadsAttributeAt rest.now result }
 {
     let name = attribute_name_end(rest);
-    match past_equals(&rest[name..]) {
+    match skip_equals(&rest[name..]) {
         None => AttributePlace {
             name,
             value: name,
@@ -202,7 +204,7 @@ fn attribute_here(rest: &str) -> AttributePlace
         },
         Some(equals) => {
             let at = name + equals;
-            let place = value_place(&rest[at..]);
+            let place = value_after_equals(&rest[at..]);
             AttributePlace {
                 name,
                 value: at + place.start,
@@ -213,7 +215,7 @@ fn attribute_here(rest: &str) -> AttributePlace
     }
 }
 
-/// The attribute with which a text begins, and what stands after it up to the next attribute or the tag's end.
+/// The place of the attribute that a text begins with, up to the next attribute or the tag's end.
 pub fn attribute(rest: &str) -> AttributePlace
     requires { BeginsAttribute rest.now }
     ensures name { IsCharBoundary rest.now result.name }
@@ -221,31 +223,31 @@ pub fn attribute(rest: &str) -> AttributePlace
     ensures value_end { IsCharBoundary rest.now result.value_end }
     ensures end { IsCharBoundary rest.now result.end }
     ensures ordered { result.value ≤ result.value_end }
-    ensures some { 0 < result.end }
-    ensures next { BeginsOutside (belongs Gap) (drop result.end rest.now) }
-    ensures reads { HoldsAttribute rest.now result }
+    ensures nonempty { 0 < result.end }
+    ensures next { BeginsOutside (in_class Gap) (drop result.end rest.now) }
+    ensures reads { ReadsAttributeAt rest.now result }
 {
-    let place = attribute_here(rest);
+    let place = attribute_alone(rest);
     AttributePlace {
-        end: place.end + gap(&rest[place.end..]),
+        end: place.end + gap_len(&rest[place.end..]),
         ..place
     }
 }
 
-/// How far the next attribute or the tag's end is.
-pub fn gap(rest: &str) -> usize
+/// The offset of the next attribute or of the tag's end.
+pub fn gap_len(rest: &str) -> usize
     ensures boundary { IsCharBoundary rest.now result }
-    ensures next { BeginsOutside (belongs Gap) (drop result rest.now) }
+    ensures next { BeginsOutside (in_class Gap) (drop result rest.now) }
     ensures reads { (tag : Tag) → read (BeforeName tag) 0 (input rest.now) ≡ read (BeforeName tag) 0 (input (drop result rest.now)) }
 {
-    front(Class::Gap, rest.as_bytes())
+    prefix_len(Class::Gap, rest.as_bytes())
 }
 
-/// Whether an attribute stands here, where a tag does not end.
+/// Whether the text begins with an attribute. Else the tag or the text ends here.
 pub fn begins_attribute(rest: &str) -> bool
-    requires { BeginsOutside (belongs Gap) rest.now }
-    ensures yes { result ≡ true → BeginsAttribute rest.now }
-    ensures over { result ≡ false → EndsTag rest.now }
+    requires { BeginsOutside (in_class Gap) rest.now }
+    ensures begins { result ≡ true → BeginsAttribute rest.now }
+    ensures ends { result ≡ false → EndsTag rest.now }
 {
     match rest.as_bytes() {
         [] => false,
@@ -253,13 +255,13 @@ pub fn begins_attribute(rest: &str) -> bool
     }
 }
 
-/// Where a tag ends, after its `>`, whose name has been read. None where the text ends before.
+/// The offset after the `>` of a tag, in the text after its name. `None` if the text ends before.
 pub fn tag_end(rest: &str) -> Option<usize>
     ensures boundary { IfSome result (λ n. IsCharBoundary rest.now n) }
-    ensures some { IfSome result (λ n. 0 < n) }
-    ensures reads { EndsAfter rest.now result }
+    ensures nonempty { IfSome result (λ n. 0 < n) }
+    ensures reads { TagEndsAfter rest.now result }
 {
-    let mut at = gap(rest);
+    let mut at = gap_len(rest);
     while begins_attribute(&rest[at..]) {
         at += attribute(&rest[at..]).end;
     }

@@ -6,9 +6,9 @@ ghost use Rattle.html_references.specs.Input.{input, read_as};
 ghost use Rattle.html_tokens.specs.Scanned.{opens_markup as opens};
 ghost use Rattle.html_references.specs.declared.stretch.ReadAs.TheVariants.{Text};
 
-use crate::cuts::place_of;
+use crate::cuts::skip_to_byte;
 
-/// Whether a text begins with `<` and what opens a tag or a comment.
+/// Whether a text begins with markup: `<` and a letter, `!` or `?`, or `</` and anything.
 pub fn opens_markup(rest: &str) -> bool
     ensures { result ≡ opens rest.now }
 {
@@ -23,15 +23,15 @@ pub fn opens_markup(rest: &str) -> bool
     }
 }
 
-/// Where the run of characters ends with which a text begins: at what opens a tag or a comment, or at the text's end.
+/// The length of the run of characters that a text begins with, up to markup or the text's end.
 pub fn text_end(rest: &str) -> usize
     ensures boundary { IsCharBoundary rest.now result }
     ensures reads { read Data 0 (input rest.now) ≡ char_tokens (read_as Text (input (take result rest.now))) ++ read Data 0 (input (drop result rest.now)) }
     ensures ends { result < length rest.now → opens (drop result rest.now) ≡ true }
 {
-    let mut at = place_of(b'<', rest);
+    let mut at = skip_to_byte(b'<', rest);
     while at < rest.len() && !opens_markup(&rest[at..]) {
-        at += 1 + place_of(b'<', &rest[at + 1..]);
+        at += 1 + skip_to_byte(b'<', &rest[at + 1..]);
     }
     at
 }

@@ -1,4 +1,4 @@
-//! All the tokens of a text.
+//! The tokens of a whole text.
 ghost use Rattle.std.specs.Prelude.{◌≡◌, IfOk, chars};
 ghost use Rattle.html_syntax.specs.Held.{meanings};
 ghost use Rattle.html_syntax.specs.Tokenizer.{tokens};
@@ -6,7 +6,7 @@ ghost use Rattle.html_syntax.specs.Tokenizer.{tokens};
 use crate::{Memory, Scanner, Token};
 use std::alloc::Global;
 
-/// The tokens of a text, one after another: what the spans of a [`Scanner`] are read as are the definition's tokens.
+/// Returns the tokens of a text: exactly those of the definition.
 pub fn read_tokens(alloc: Global, text: &str) -> Result<Vec<Token>, Memory>
     ensures { IfOk result (λ list. meanings list.items ≡ tokens (chars text.now)) }
 {

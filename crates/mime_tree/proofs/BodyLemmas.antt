@@ -10,7 +10,7 @@ use Rattle.std.specs.Prelude.{All, filter, Option, Some, None, max, IfSome}
 use Rattle.std.proofs.lemmas.List.Elements.{All-push}
 use Rattle.header_words.proofs.FirstLine.{slice_split_some, slice_split_whole, first_size_found, first_text_found, first_size_last, first_text_last}
 use Rattle.mime_tree.specs.declared.body.Range.{Range}
-use Rattle.mime_tree.specs.Body.{Line, placed, lines_from, is_delimiter, delimits, closes, places, places_between, places_after, delimiters, with_part, line_of, range, IsWithin}
+use Rattle.mime_tree.specs.Body.{Line, placed, lines_from, is_delimiter, is_delimiter_line, is_closing_line, places, places_between, places_after, delimiters, with_part, line_of, range, IsWithin}
 
 line_last : (start at : ℕ) (rest : List ℕ) → 0 < length rest → placed start at (rest ∷ []) ≡ line_of start (at + length rest) rest ∷ []
 line_last start at rest some = rw (lt-ltb 0 (length rest) some) refl
@@ -82,11 +82,11 @@ places_left boundary end None ds = places_between boundary end ds
 places_left boundary end (Some from) ds = places_after boundary end from ds
 
 -- a line that is no delimiter
-pub passed : (boundary text : List ℕ) (start at n : ℕ) (says : List ℕ) → Turn text start at n says → false ≡ delimits boundary says → delimiters boundary start at (drop at text) ≡ delimiters boundary (at + length says) (at + n) (drop (at + n) text)
+pub passed : (boundary text : List ℕ) (start at n : ℕ) (says : List ℕ) → Turn text start at n says → false ≡ is_delimiter_line boundary says → delimiters boundary start at (drop at text) ≡ delimiters boundary (at + length says) (at + n) (drop (at + n) text)
 passed boundary text start at n says t h = ap (filter (is_delimiter boundary)) t.lines ∙ rw (← h) refl
 
 -- a delimiter
-pub met : (boundary text : List ℕ) (start at n : ℕ) (says : List ℕ) → Turn text start at n says → true ≡ delimits boundary says → delimiters boundary start at (drop at text) ≡ line_of start (at + n) says ∷ delimiters boundary (at + length says) (at + n) (drop (at + n) text)
+pub met : (boundary text : List ℕ) (start at n : ℕ) (says : List ℕ) → Turn text start at n says → true ≡ is_delimiter_line boundary says → delimiters boundary start at (drop at text) ≡ line_of start (at + n) says ∷ delimiters boundary (at + length says) (at + n) (drop (at + n) text)
 met boundary text start at n says t h = ap (filter (is_delimiter boundary)) t.lines ∙ rw (← h) refl
 
 -- ---- the places that are found, and those that are left
@@ -99,7 +99,7 @@ unfolding places
 continues_first boundary text found e = ap (λ f. f ++ places_between boundary (length text) (delimiters boundary 0 0 text)) e
 
 -- a delimiter that closes nothing
-pub continues_on : (boundary text : List ℕ) (found : List Range) (begun : Option ℕ) (d : Line) (more : List Line) → false ≡ closes boundary d.text → Continues boundary text found begun (d ∷ more) → Continues boundary text (with_part found begun d.start) (Some d.next) more
+pub continues_on : (boundary text : List ℕ) (found : List Range) (begun : Option ℕ) (d : Line) (more : List Line) → false ≡ is_closing_line boundary d.text → Continues boundary text found begun (d ∷ more) → Continues boundary text (with_part found begun d.start) (Some d.next) more
 continues_on boundary text found None d more g s =
     let cut : places_between boundary (length text) (d ∷ more) ≡ places_after boundary (length text) d.next more = rw (← g) refl in
     ap (λ ps. found ++ ps) (sym cut) ∙ s
@@ -108,7 +108,7 @@ continues_on boundary text found (Some from) d more g s =
     append_assoc found (range from (max from d.start) ∷ []) (places_after boundary (length text) d.next more) ∙ ap (λ ps. found ++ ps) (sym cut) ∙ s
 
 -- a delimiter that closes
-pub continues_closed : (boundary text : List ℕ) (found : List Range) (begun : Option ℕ) (d : Line) (more : List Line) → true ≡ closes boundary d.text → Continues boundary text found begun (d ∷ more) → with_part found begun d.start ≡ places boundary text
+pub continues_closed : (boundary text : List ℕ) (found : List Range) (begun : Option ℕ) (d : Line) (more : List Line) → true ≡ is_closing_line boundary d.text → Continues boundary text found begun (d ∷ more) → with_part found begun d.start ≡ places boundary text
 continues_closed boundary text found None d more g s =
     let cut : places_between boundary (length text) (d ∷ more) ≡ [] = rw (← g) refl in
     sym (append-nil found) ∙ ap (λ ps. found ++ ps) (sym cut) ∙ s
@@ -124,7 +124,7 @@ continues_end boundary text found (Some from) h s = ap (λ n. found ++ range fro
 -- the part that is begun is one of the places
 pub continues_more : (boundary text : List ℕ) (found : List Range) (begun : Option ℕ) (d : Line) (more : List Line) → Continues boundary text found begun (d ∷ more) → length (with_part found begun d.start) ≤ length (places boundary text)
 continues_more boundary text found begun d more s =
-    elim (cases_Bool (closes boundary d.text)) [
+    elim (cases_Bool (is_closing_line boundary d.text)) [
       | inl closing ↦ omega (arith, ap length (continues_closed boundary text found begun d more (sym closing) s))
       | inr opening ↦ omega (arith, ap length (continues_on boundary text found begun d more (sym opening) s), length-append (with_part found begun d.start) (places_after boundary (length text) d.next more))
     ]
@@ -148,7 +148,7 @@ pub within_none : (size : ℕ) (found : List Range) → found ≡ [] → All (Is
 within_none size found e = subst (λ (rs : List Range). All (IsWithin size) rs) (sym e) (none_within size)
 
 -- a delimiter that closes nothing, and the places with the part before it
-pub parts_on : (boundary text : List ℕ) (found now : List Range) (begun : Option ℕ) (ds : List Line) (d : Line) (more : List Line) → now ≡ with_part found begun d.start → ds ≡ d ∷ more → false ≡ closes boundary d.text → Continues boundary text found begun ds → Continues boundary text now (Some d.next) more
+pub parts_on : (boundary text : List ℕ) (found now : List Range) (begun : Option ℕ) (ds : List Line) (d : Line) (more : List Line) → now ≡ with_part found begun d.start → ds ≡ d ∷ more → false ≡ is_closing_line boundary d.text → Continues boundary text found begun ds → Continues boundary text now (Some d.next) more
 parts_on boundary text found now begun ds d more e f g s =
     ap (λ ps. ps ++ places_left boundary (length text) (Some d.next) more) e
     ∙ continues_on boundary text found begun d more g (ap (λ l. found ++ places_left boundary (length text) begun l) (sym f) ∙ s)

@@ -1,4 +1,4 @@
--- No line of what stands in a multipart delimits by a boundary around it.
+-- No line of a part is a delimiter line of a multipart around it.
 use Rattle.std.proofs.Common.{◌≡◌, ℕ, zero, suc, ◌+◌, ◌-◌, ◌<◌, ◌≤◌, inl, inr, Bool, true, false, ◌||◌, not, cond, List, [], ◌∷◌, ◌++◌, length, get_or, take, drop, refl, sym, ap, ◌∙◌, subst, arith, length-drop}
 use Rattle.std.proofs.lemmas.Bool.{and_parts, or_right, cases_Bool}
 use Rattle.std.proofs.lemmas.List.{drop-drop, drop-take, take-take, length-take-le}
@@ -14,10 +14,10 @@ use Rattle.mime_tree.specs.declared.body.Range.{Range}
 use Rattle.mime_tree.specs.declared.node.Position.{Position}
 use Rattle.mime_tree.specs.declared.node.Position.TheVariants.{Body, Child}
 use Rattle.mime_tree.specs.declared.node.Node.{Node}
-use Rattle.mime_tree.specs.Body.{delimits, places}
+use Rattle.mime_tree.specs.Body.{is_delimiter_line, places}
 use Rattle.mime_tree.specs.Content.{is_multipart, default_in}
 use Rattle.mime_tree.specs.Opening.{node_at, children_from, inside, prefix_of, section_of}
-use Rattle.mime_tree.specs.Laws.{IsClear, HasPlace, StandsIn, direct, deeper, OuterLinesEndParts}
+use Rattle.mime_tree.specs.Laws.{IsClear, HasPlace, IsInside, direct, deeper, OuterLinesEndParts}
 use Rattle.mime_tree.proofs.OpeningLemmas.{inside_message, inside_multipart}
 use Rattle.mime_tree.proofs.LineLaws.{Each, EachPasses, places_pass}
 
@@ -98,7 +98,7 @@ children_pass q bytes n k (r ∷ rs) le fits h =
     all_cons q bytes (node_at bytes (default_in n.content.mime) (Child (prefix_of n.position ++ k ∷ [])) (n.around + 1) n.enclosed (n.body + r.from) (n.body + r.to)) (children_from bytes n (k + 1) rs) one (children_pass q bytes n (k + 1) rs le fits h.1)
 
 abbrev clear_of : List ℕ → List ℕ → Bool
-clear_of boundary l = not (delimits boundary l)
+clear_of boundary l = not (is_delimiter_line boundary l)
 
 or_not : (b : Bool) → (b || not b) ≡ true
 or_not true = refl
@@ -108,14 +108,14 @@ all_true : (ls : List (List ℕ)) → list_all (λ l. true) ls ≡ true
 all_true [] = refl
 all_true (l ∷ ls) = all_true ls
 
-all_or_not : (boundary : List ℕ) (ls : List (List ℕ)) → list_all (λ l. delimits boundary l || clear_of boundary l) ls ≡ true
+all_or_not : (boundary : List ℕ) (ls : List (List ℕ)) → list_all (λ l. is_delimiter_line boundary l || clear_of boundary l) ls ≡ true
 all_or_not boundary [] = refl
-all_or_not boundary (l ∷ ls) = rw (or_not (delimits boundary l)) (all_or_not boundary ls)
+all_or_not boundary (l ∷ ls) = rw (or_not (is_delimiter_line boundary l)) (all_or_not boundary ls)
 
-all_or : (boundary : List ℕ) (q : List ℕ → Bool) (ls : List (List ℕ)) → list_all q ls ≡ true → list_all (λ l. delimits boundary l || q l) ls ≡ true
+all_or : (boundary : List ℕ) (q : List ℕ → Bool) (ls : List (List ℕ)) → list_all q ls ≡ true → list_all (λ l. is_delimiter_line boundary l || q l) ls ≡ true
 all_or boundary q ls h =
     let pass = AllPass-from_list_all q ls h in
-    list_all-from_AllPass (λ l. delimits boundary l || q l) ls (λ k d lt. or_right _ _ (pass k d lt))
+    list_all-from_AllPass (λ l. is_delimiter_line boundary l || q l) ls (λ k d lt. or_right _ _ (pass k d lt))
 
 not_true : (b : Bool) → not b ≡ true → b ≡ false
 not_true true h = absurd cc
@@ -156,7 +156,7 @@ own_passes bytes n le fits parts =
     subst (λ (ns : List Node). EachNode (clear_of boundary) bytes ns) (sym (inside_multipart bytes n (sym parts)))
     (children_pass (clear_of boundary) bytes n 1 (places boundary text) le fits (places_pass boundary (clear_of boundary) text (all_or_not boundary (lines text))))
 
--- what stands in a node has a place where the node has one
+-- the nodes in a node have places if that node has one
 node_place : (bytes default : List ℕ) (position : Position) (around : ℕ) (enclosed : Bool) (from to : ℕ) → from ≤ to → to ≤ length bytes → HasPlace bytes (node_at bytes default position around enclosed from to)
 unfolding node_at header_of
 node_place bytes default position around enclosed from to le fits =
@@ -194,12 +194,12 @@ inside_place bytes n place =
           (λ i d lt. places_cons bytes (node_at bytes (codes "text/plain") (Body (Some (section_of n.position))) (n.around + 1) true n.body n.to) [] body (All-nil (HasPlace bytes)) i d lt)
     ]
 
--- a node that stands in another, and the boundary of that one
+-- a node in another, and the boundary of that one
 record Inner (bytes boundary : List ℕ) (c : Node) : Type 0 where
   place : HasPlace bytes c
   clear : IsClear bytes boundary c
 
-inner : (bytes : List ℕ) (n c : Node) → HasPlace bytes n → is_multipart n.content.mime ≡ true → StandsIn bytes n c → Inner bytes (unwrap_or n.content.boundary []) c
+inner : (bytes : List ℕ) (n c : Node) → HasPlace bytes n → is_multipart n.content.mime ≡ true → IsInside bytes n c → Inner bytes (unwrap_or n.content.boundary []) c
 inner bytes n _ place parts (direct c at) =
     let boundary = unwrap_or n.content.boundary [] in
     record {

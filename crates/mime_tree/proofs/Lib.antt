@@ -4,11 +4,11 @@ mod BestExamples
 mod MalformedExamples
 pub mod BodyLemmas
 pub mod SearchLemmas
-pub mod PieceLemmas
 pub mod OpeningLemmas
 pub mod BestLemmas
-pub mod ContentLemmas
 pub mod SectionLaws
 pub mod TreeLaws
+pub mod OpensLaws
+pub mod ShownLaws
 pub mod LineLaws
 pub mod ClearLaws

@@ -10,7 +10,7 @@ use Rattle.std.specs.Str.Lines.{lines, strip_carriage_return}
 use Rattle.header_words.specs.Lines.{is_newline, first_text, first_size}
 use Rattle.header_words.proofs.FirstLine as header
 use Rattle.mime_tree.specs.declared.body.Range.{Range}
-use Rattle.mime_tree.specs.Body.{Line, lines_from, is_delimiter, delimits, closes, places, places_between, places_after, range, IsWithin, line_of}
+use Rattle.mime_tree.specs.Body.{Line, lines_from, is_delimiter, is_delimiter_line, is_closing_line, places, places_between, places_after, range, IsWithin, line_of}
 use Rattle.mime_tree.proofs.BodyLemmas.{lines_step, text_fits}
 
 -- each line passes a test
@@ -103,7 +103,7 @@ lines_front xs m some fits =
 
 -- a line delimits or passes the test
 abbrev pub DelimitsOr : List ℕ → (List ℕ → Bool) → List ℕ → Type 0
-DelimitsOr boundary q xs = Each (λ l. delimits boundary l || q l) xs
+DelimitsOr boundary q xs = Each (λ l. is_delimiter_line boundary l || q l) xs
 
 or_other : (a b : Bool) → (a || b) ≡ true → a ≡ false → b ≡ true
 or_other true b h e = absurd cc
@@ -127,14 +127,14 @@ size_fits xs = omega arith
 drop_both : (n k : ℕ) (xs : List ℕ) → drop k (drop n xs) ≡ drop (n + k) xs
 drop_both n k xs = drop-drop k n xs
 
-on_delimiters : (boundary : List ℕ) (start at : ℕ) (xs : List ℕ) → 0 < length xs → delimits boundary (first_text xs) ≡ false → delimiters_of boundary start at xs ≡ delimiters_of boundary (at + length (first_text xs)) (at + first_size xs) (drop (first_size xs) xs)
+on_delimiters : (boundary : List ℕ) (start at : ℕ) (xs : List ℕ) → 0 < length xs → is_delimiter_line boundary (first_text xs) ≡ false → delimiters_of boundary start at xs ≡ delimiters_of boundary (at + length (first_text xs)) (at + first_size xs) (drop (first_size xs) xs)
 on_delimiters boundary start at xs more h =
     let n = first_size xs in
     let l = first_text xs in
     let rest = delimiters_of boundary (at + length l) (at + n) (drop n xs) in
     ap (filter (is_delimiter boundary)) (lines_step start at xs more) ∙ ap (λ t. cond t (line_of start (at + n) l ∷ rest) rest) h
 
-cut_here : (boundary : List ℕ) (q : List ℕ → Bool) (start at : ℕ) (xs : List ℕ) → 0 < length xs → delimits boundary (first_text xs) ≡ true → DelimitsOr boundary q (drop (first_size xs) xs) → Cut boundary q start at xs
+cut_here : (boundary : List ℕ) (q : List ℕ → Bool) (start at : ℕ) (xs : List ℕ) → 0 < length xs → is_delimiter_line boundary (first_text xs) ≡ true → DelimitsOr boundary q (drop (first_size xs) xs) → Cut boundary q start at xs
 cut_here boundary q start at xs more h rest =
     let n = first_size xs in
     let l = first_text xs in
@@ -143,7 +143,7 @@ cut_here boundary q start at xs more h rest =
     some (line_of start (at + n) l) (delimiters_of boundary (at + length l) (at + n) (drop n xs)) 0 n (at + length l) ds (inl (refl, refl)) (omega arith) refl (size_some xs more) (size_fits xs) (omega (arith, text_fits xs)) refl rest refl
 
 -- a line that doesn't delimit goes before the rest
-cut_on : (boundary : List ℕ) (q : List ℕ → Bool) (start at : ℕ) (xs : List ℕ) → 0 < length xs → delimits boundary (first_text xs) ≡ false → q (first_text xs) ≡ true → Cut boundary q (at + length (first_text xs)) (at + first_size xs) (drop (first_size xs) xs) → Cut boundary q start at xs
+cut_on : (boundary : List ℕ) (q : List ℕ → Bool) (start at : ℕ) (xs : List ℕ) → 0 < length xs → is_delimiter_line boundary (first_text xs) ≡ false → q (first_text xs) ≡ true → Cut boundary q (at + length (first_text xs)) (at + first_size xs) (drop (first_size xs) xs) → Cut boundary q start at xs
 cut_on boundary q start at xs more h e (none is each) =
     let n = first_size xs in
     let ds : delimiters_of boundary start at xs ≡ [] = on_delimiters boundary start at xs more h ∙ is in
@@ -179,12 +179,12 @@ cut (suc fuel) boundary q start at (x ∷ rest) h each =
     let more : 0 < length xs = omega arith in
     let n = first_size xs in
     let l = first_text xs in
-    let all : ((delimits boundary l || q l) && list_all (λ t. delimits boundary t || q t) (lines (drop n xs))) ≡ true =
-    ap (list_all (λ t. delimits boundary t || q t)) (sym (header.lines_step xs more)) ∙ each in
-    let after : DelimitsOr boundary q (drop n xs) = (and_parts (delimits boundary l || q l) _ all).1 in
-    elim (cases_Bool (delimits boundary l)) [
+    let all : ((is_delimiter_line boundary l || q l) && list_all (λ t. is_delimiter_line boundary t || q t) (lines (drop n xs))) ≡ true =
+    ap (list_all (λ t. is_delimiter_line boundary t || q t)) (sym (header.lines_step xs more)) ∙ each in
+    let after : DelimitsOr boundary q (drop n xs) = (and_parts (is_delimiter_line boundary l || q l) _ all).1 in
+    elim (cases_Bool (is_delimiter_line boundary l)) [
       | inl yes' ↦ cut_here boundary q start at xs more yes' after
-      | inr no' ↦ cut_on boundary q start at xs more no' (or_other (delimits boundary l) (q l) ((and_parts _ _ all).0) no') (cut fuel boundary q (at + length l) (at + n) (drop n xs) (omega (arith, length-drop n xs, size_some xs more)) after)
+      | inr no' ↦ cut_on boundary q start at xs more no' (or_other (is_delimiter_line boundary l) (q l) ((and_parts _ _ all).0) no') (cut fuel boundary q (at + length l) (at + n) (drop n xs) (omega (arith, length-drop n xs, size_some xs more)) after)
     ]
 
 -- the lines of each place pass, and it is a place of the text
@@ -229,7 +229,7 @@ after_step boundary q text start from le fits next (some d more m k s is place m
     let rest = next k s pos k_fits s_fits (subst (λ (ys : List ℕ). DelimitsOr boundary q ys) both later) in
     let moved : EachPasses q text (places_after boundary (length text) (from + k) more) = subst (λ (ds : List Line). EachPasses q text (places_after boundary (length text) (from + k) ds)) (sym rest_is) rest in
     let at : EachPasses q text (places_after boundary (length text) d.next more) = subst (λ (p : ℕ). EachPasses q text (places_after boundary (length text) p more)) (sym d_next) moved in
-    subst (λ (ds : List Line). EachPasses q text (places_after boundary (length text) from ds)) (sym is) (one, if_closes (closes boundary d.text) q text (places_after boundary (length text) d.next more) at)
+    subst (λ (ds : List Line). EachPasses q text (places_after boundary (length text) from ds)) (sym is) (one, if_closes (is_closing_line boundary d.text) q text (places_after boundary (length text) d.next more) at)
 
 after_passes : (fuel : ℕ) (boundary : List ℕ) (q : List ℕ → Bool) (text : List ℕ) (start from : ℕ) → length text - from ≤ fuel → start ≤ from → from ≤ length text → DelimitsOr boundary q (drop from text) → EachPasses q text (places_after boundary (length text) from (delimiters_of boundary start from (drop from text)))
 after_passes zero boundary q text start from small le fits all =
@@ -249,7 +249,7 @@ between_passes boundary q text (some d more m k s is place m_fits d_next pos k_f
     let all : DelimitsOr boundary q (drop d.next text) = subst (λ (p : ℕ). DelimitsOr boundary q (drop p text)) (sym at) later in
     let rest = after_passes (length text) boundary q text s d.next (omega arith) (omega (arith, at)) (omega (arith, at)) all in
     let moved : EachPasses q text (places_after boundary (length text) d.next more) = subst (λ (ds : List Line). EachPasses q text (places_after boundary (length text) d.next ds)) (sym rest_is) rest in
-    subst (λ (ds : List Line). EachPasses q text (places_between boundary (length text) ds)) (sym is) (if_closes (closes boundary d.text) q text (places_after boundary (length text) d.next more) moved)
+    subst (λ (ds : List Line). EachPasses q text (places_between boundary (length text) ds)) (sym is) (if_closes (is_closing_line boundary d.text) q text (places_after boundary (length text) d.next more) moved)
 
 pub places_pass : (boundary : List ℕ) (q : List ℕ → Bool) (text : List ℕ) → DelimitsOr boundary q text → EachPasses q text (places boundary text)
 unfolding places

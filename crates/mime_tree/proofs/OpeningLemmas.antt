@@ -1,4 +1,4 @@
--- What stands in a node, and the tree after so many steps.
+-- The nodes in a node, and the tree after some steps.
 use Rattle.std.proofs.Common.{◌≡◌, ℕ, zero, suc, ◌+◌, ◌-◌, ◌<◌, ◌≤◌, ◌*◌, inl, inr, Bool, true, false, ◌&&◌, cond, List, [], ◌∷◌, ◌++◌, length, take, drop, get_or, refl, sym, ap, ◌∙◌, subst, arith, length-append, append_assoc, add-one, drop-cons}
 use Rattle.std.proofs.lemmas.Bool.{and_parts, cases_Bool, le-leb, lt-leb, leb-true}
 use Rattle.std.proofs.lemmas.List.Elements.{All-append, All-push}
@@ -10,8 +10,9 @@ use Rattle.mime_tree.specs.declared.node.Node.{Node}
 use Rattle.mime_tree.specs.Tree.{PartValue}
 use Rattle.mime_tree.specs.Body.{places, range}
 use Rattle.header_words.specs.Fields.{Header, header_of}
-use Rattle.mime_tree.specs.declared.content.Content.{Content}
-use Rattle.mime_tree.specs.Content.{content_of, is_multipart, default_in}
+use Rattle.mime_content.specs.declared.content.Content.{Content}
+use Rattle.mime_tree.specs.Content.{is_multipart, default_in}
+use Rattle.mime_content.specs.Content.{content_of}
 use Rattle.mime_tree.specs.Opening.{Opened, node_at, children_from, inside, can_open, own, part_of, section_of, prefix_of, is_body, is_raw, opens_beside, settle, opened, IsSound, parts_of, message_of}
 
 abbrev message_at : ℕ → ℕ → Content → Node
@@ -90,7 +91,7 @@ leaf_settles bytes parts now n waiting others raw p size h r e f =
     let items : now ≡ parts ++ part_of bytes n (is_raw n.content) ∷ [] = f ∙ ap (λ x. parts ++ x ∷ []) (e ∙ ap (part_of bytes n) r) in
     settle_leaf bytes parts n (reverse waiting) (ap (λ k. opens_beside bytes k n) sizes ∙ h) ∙ ap (λ ps. opened_of ps (reverse waiting)) (sym items)
 
--- a node with what stands in it
+-- a node with the nodes in it
 pub open_settles : (bytes : List ℕ) (parts now : List PartValue) (n : Node) (waiting back children : List Node) (others : ℕ) → others ≡ length parts + length waiting → opens_beside bytes others n ≡ true → now ≡ parts ++ own bytes n → children ≡ inside bytes n → back ≡ children ++ reverse waiting → settle bytes parts n (reverse waiting) ≡ record { parts = now; waiting = back }
 open_settles bytes parts now n waiting back children others size h e f g =
     let sizes : length parts + length (reverse waiting) ≡ others = omega (arith, length-reverse waiting) in
@@ -215,7 +216,7 @@ less bytes n =
           ]
     ]
 
--- so many steps are enough
+-- these steps are enough
 pub enough : (bytes : List ℕ) (steps : ℕ) (parts : List PartValue) (waiting : List Node) → length parts + length waiting ≤ 1000 → 2 * (1000 - length parts) + whole_count waiting ≤ steps → (opened bytes steps parts waiting).waiting ≡ []
 unfolding opened
 enough bytes steps parts [] size work = refl

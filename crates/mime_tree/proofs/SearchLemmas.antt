@@ -1,8 +1,8 @@
 -- Lines without `--` and the boundary in them are no delimiters.
-use Rattle.std.proofs.Common.{◌≡◌, ℕ, zero, suc, ◌+◌, ◌-◌, ◌<◌, ◌≤◌, inl, inr, Bool, true, false, ◌&&◌, ◌||◌, cond, eqb, List, [], ◌∷◌, ◌++◌, length, get_or, take, drop, refl, sym, ap, ◌∙◌, subst, arith, length-drop, length-append, append_assoc}
+use Rattle.std.proofs.Common.{◌≡◌, ℕ, zero, suc, ◌+◌, ◌-◌, ◌<◌, ◌≤◌, inl, inr, Bool, true, false, ◌&&◌, cond, eqb, List, [], ◌∷◌, ◌++◌, length, get_or, take, drop, refl, sym, ap, ◌∙◌, subst, arith, length-drop, length-append, append_assoc}
 use Rattle.std.specs.Prelude.{filter, codes, not}
-use Rattle.std.specs.List.{position_or_len, prefix_len, starts_with, list_all}
-use Rattle.std.proofs.lemmas.Bool.{cases_lt, cases_Bool, eqb-true, ne_eqb}
+use Rattle.std.specs.List.{position_or_len, starts_with}
+use Rattle.std.proofs.lemmas.Bool.{cases_lt, cases_Bool, eqb-true}
 use Rattle.std.proofs.lemmas.Bool.Decides.{Decides-eqb}
 use Rattle.std.proofs.lemmas.Slice.Eq.{starts_is}
 use Rattle.std.proofs.lemmas.List.{drop-drop, take_rest, length-take-le, get_or-drop, get_or-take, get_or_append_left}
@@ -12,7 +12,7 @@ use Rattle.memchr.specs.Find.{OccursAt, Nowhere}
 use Rattle.header_words.specs.Lines.{is_newline, first_text, first_size}
 use Rattle.header_words.proofs.FirstLine.{first_text_found, first_size_found}
 use Rattle.header_words.proofs.WholeLines.{IsFront, front_first}
-use Rattle.mime_tree.specs.Body.{is_delimiter, delimits, opens, closes, begins, delimiters, lines_from}
+use Rattle.mime_tree.specs.Body.{is_delimiter, is_delimiter_line, is_closing_line, has_boundary, delimiters}
 use Rattle.mime_tree.proofs.BodyLemmas.{lines_step}
 
 abbrev pub needle_of : List ℕ → List ℕ
@@ -20,10 +20,10 @@ needle_of boundary = codes "--" ++ boundary
 
 -- ---- a delimiter has the needle at its front
 
-begins_of : (boundary text : List ℕ) → delimits boundary text ≡ true → begins boundary text ≡ true
-unfolding delimits closes
+begins_of : (boundary text : List ℕ) → is_delimiter_line boundary text ≡ true → has_boundary boundary text ≡ true
+unfolding is_delimiter_line is_closing_line
 begins_of boundary text h =
-    elim (cases_Bool (begins boundary text)) [
+    elim (cases_Bool (has_boundary boundary text)) [
       | inl begun ↦ begun
       | inr other ↦ (let f = rw other at h in absurd (cc))
     ]
@@ -37,7 +37,7 @@ record IsAtFront (needle text : List ℕ) : Type 0 where
   more : List ℕ
   is : text ≡ needle ++ more
 
-needle_front : (boundary text : List ℕ) → begins boundary text ≡ true → IsAtFront (needle_of boundary) text
+needle_front : (boundary text : List ℕ) → has_boundary boundary text ≡ true → IsAtFront (needle_of boundary) text
 needle_front boundary text h =
     let parts = both (starts_with eqb text (codes "--")) (starts_with eqb (drop 2 text) boundary) h in
     let dashes : text ≡ codes "--" ++ drop 2 text = (starts_is Decides-eqb text (codes "--") (starts_with eqb text (codes "--")) refl).0 parts.0 in
@@ -50,7 +50,7 @@ occurs_front needle more = record {
   reads = λ j h. ap (λ k. get_or (needle ++ more) k 0) (let q : 0 + j ≡ j = omega arith in q) ∙ get_or_append_left needle more 0 j h;
 }
 
-occurs_delimiter : (boundary rest : List ℕ) → delimits boundary (first_text rest) ≡ true → OccursAt rest (needle_of boundary) 0
+occurs_delimiter : (boundary rest : List ℕ) → is_delimiter_line boundary (first_text rest) ≡ true → OccursAt rest (needle_of boundary) 0
 occurs_delimiter boundary rest h =
     let at = needle_front boundary (first_text rest) (begins_of boundary (first_text rest) h) in
     let front : IsFront (first_text rest) rest = front_first rest in
@@ -73,7 +73,7 @@ none_later rest needle n k m h le none = record { none = λ j lt at. none.none (
 
 first_passed : (boundary rest : List ℕ) (start at : ℕ) → 0 < length rest → (OccursAt rest (needle_of boundary) 0 → ⊥) → delimiters boundary start at rest ≡ delimiters boundary (at + length (first_text rest)) (at + first_size rest) (drop (first_size rest) rest)
 first_passed boundary rest start at some none =
-    elim (cases_Bool (delimits boundary (first_text rest))) [
+    elim (cases_Bool (is_delimiter_line boundary (first_text rest))) [
       | inl delimiting ↦ absurd (none (occurs_delimiter boundary rest delimiting))
       | inr other ↦ ap (filter (is_delimiter boundary)) (lines_step start at rest some) ∙ rw other refl
     ]

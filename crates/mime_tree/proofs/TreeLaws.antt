@@ -34,7 +34,7 @@ pub nothing_waits : (bytes : List ℕ) → NothingWaits bytes
 unfolding message_of node_at
 nothing_waits bytes = enough bytes 2001 [] (message_of bytes ∷ []) (omega arith) (omega arith)
 
--- the part that a node is stands at its place
+-- the part of a node is at the place of the node
 pub part_placed : (bytes : List ℕ) (n : Node) (raw : Bool) → IsSound bytes n → IsPlaced bytes (part_of bytes n raw)
 part_placed bytes n raw h =
     let size : length (take (n.to - n.body) (drop n.body bytes)) ≡ n.to - n.body = length-take-le (n.to - n.body) (drop n.body bytes) (omega (arith, h.ordered, h.within, length-drop n.body bytes)) in

@@ -1,4 +1,4 @@
--- The part of a message that is shown.
+-- The part of a message to show.
 use Rattle.std.specs.Prelude.{ℕ, zero, suc, ◌+◌, Bool, false, not, ◌&&◌, ◌||◌, List, [], length, take, if◌then◌else◌, find, reverse, nat_eq, nat_le, ◌==◌, Option, Some, None, option_and_then, is_some, codes, bytes_eq}
 use Rattle.std.specs.List.{starts_with}
 use Rattle.std.specs.Option.{option_map_or}
@@ -26,7 +26,7 @@ is_text p = (bytes_eq p.mime (codes "text/plain") || is_html p) && (not p.attach
 abbrev pub counts : PartValue → Bool
 counts p = is_text p && is_some (charset_named p.charset)
 
--- whether the multipart of a section is an alternative; the one of no number is the message itself
+-- whether the multipart of a section is an alternative; the empty section is the message itself
 abbrev pub is_alternative_at : TreeValue → List ℕ → Bool
 is_alternative_at t section =
     if length section == 0 then t.alternative else option_map_or (λ (p : PartValue). is_alternative p.mime) (part_at section t.parts) false
@@ -35,12 +35,12 @@ is_alternative_at t section =
 abbrev pub counts_in : List ℕ → PartValue → Bool
 counts_in section p = counts p && starts_with nat_eq p.section section
 
--- the leaf whose child of the multipart is taken: the last that counts in an alternative, in every other multipart the first
+-- the leaf whose child of the multipart is chosen: the last that counts in an alternative, in any other multipart the first
 abbrev pub taken_in : TreeValue → List ℕ → Option PartValue
 taken_in t section =
     if is_alternative_at t section then find (counts_in section) (reverse t.parts) else find (counts_in section) t.parts
 
--- the leaf that the multipart of a section gives: where its taken leaf is its child that leaf, and else what that child gives
+-- the leaf of the multipart of a section: the chosen leaf if that is its child, and else the leaf of the chosen child
 unfoldable pub given : ℕ → TreeValue → List ℕ → Option PartValue
 given zero t section = None
 given (suc depth) t section = option_and_then (λ (p : PartValue).
@@ -58,7 +58,7 @@ abbrev pub shown_of : Option PartValue → Option PartValue → Shown
 shown_of (Some p) other = shown_as p
 shown_of None other = shown_else other
 
--- what is shown of a message: the leaf that it gives, else the first of an unread charset. A section has 40 numbers at most,
--- so 40 multiparts in each other are all that there can be
+-- the part to show: the leaf of the outermost multipart, else the first text or page of an unread charset. A section has at most
+-- 40 numbers, so at most 40 multiparts are in one another
 unfoldable pub best_of : TreeValue → Shown
 best_of t = shown_of (given 40 t []) (find is_text t.parts)

@@ -24,24 +24,24 @@ abbrev pub lines_from : ℕ → ℕ → List ℕ → List Line
 lines_from start at text = placed start at (slice_split is_newline text)
 
 -- a delimiter line is `--`, the boundary, optional `--`, and blanks
-abbrev pub begins : List ℕ → List ℕ → Bool
-begins boundary text = starts_with nat_eq text (codes "--") && starts_with nat_eq (drop 2 text) boundary
+abbrev pub has_boundary : List ℕ → List ℕ → Bool
+has_boundary boundary text = starts_with nat_eq text (codes "--") && starts_with nat_eq (drop 2 text) boundary
 
 abbrev pub tail_of : List ℕ → List ℕ → List ℕ
 tail_of boundary text = drop (2 + length boundary) text
 
-abbrev pub opens : List ℕ → List ℕ → Bool
-opens boundary text = begins boundary text && list_all is_blank (tail_of boundary text)
+abbrev pub is_opening_line : List ℕ → List ℕ → Bool
+is_opening_line boundary text = has_boundary boundary text && list_all is_blank (tail_of boundary text)
 
-unfoldable pub closes : List ℕ → List ℕ → Bool
-closes boundary text =
-    begins boundary text && (starts_with nat_eq (tail_of boundary text) (codes "--") && list_all is_blank (drop 2 (tail_of boundary text)))
+unfoldable pub is_closing_line : List ℕ → List ℕ → Bool
+is_closing_line boundary text =
+    has_boundary boundary text && (starts_with nat_eq (tail_of boundary text) (codes "--") && list_all is_blank (drop 2 (tail_of boundary text)))
 
-unfoldable pub delimits : List ℕ → List ℕ → Bool
-delimits boundary text = opens boundary text || closes boundary text
+unfoldable pub is_delimiter_line : List ℕ → List ℕ → Bool
+is_delimiter_line boundary text = is_opening_line boundary text || is_closing_line boundary text
 
 abbrev pub is_delimiter : List ℕ → Line → Bool
-is_delimiter boundary l = delimits boundary l.text
+is_delimiter boundary l = is_delimiter_line boundary l.text
 
 abbrev pub range : ℕ → ℕ → Range
 range from to = record { from = from; to = to }
@@ -50,15 +50,15 @@ range from to = record { from = from; to = to }
 abbrev pub delimiters : List ℕ → ℕ → ℕ → List ℕ → List Line
 delimiters boundary start at text = filter (is_delimiter boundary) (lines_from start at text)
 
--- the places after a delimiter that ends at `from`: each goes to the line break before the next delimiter, the last to the end of the text
+-- the places after a delimiter that ends at `from`: each ends at the line break before the next delimiter, the last at the text's end
 abbrev pub places_after : List ℕ → ℕ → ℕ → List Line → List Range
 places_after boundary end from [] = range from end ∷ []
 places_after boundary end from (d ∷ more) =
-    range from (max from d.start) ∷ (if closes boundary d.text then [] else places_after boundary end d.next more)
+    range from (max from d.start) ∷ (if is_closing_line boundary d.text then [] else places_after boundary end d.next more)
 
 abbrev pub places_between : List ℕ → ℕ → List Line → List Range
 places_between boundary end [] = []
-places_between boundary end (d ∷ more) = if closes boundary d.text then [] else places_after boundary end d.next more
+places_between boundary end (d ∷ more) = if is_closing_line boundary d.text then [] else places_after boundary end d.next more
 
 -- the places of a multipart's parts in its body
 unfoldable pub places : List ℕ → List ℕ → List Range

@@ -1,5 +1,4 @@
 pub mod Body
-pub mod Pieces
 pub mod Content
 pub mod Tree
 pub mod Opening

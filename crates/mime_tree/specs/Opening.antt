@@ -4,12 +4,13 @@ use Rattle.header_words.specs.Fields.{header_of}
 use Rattle.mail_values.specs.Section.{numbers_of}
 use Rattle.transfer_codings.specs.declared.coding.Coding.TheVariants.{Plain}
 use Rattle.mime_tree.specs.declared.body.Range.{Range}
-use Rattle.mime_tree.specs.declared.content.Content.{Content}
+use Rattle.mime_content.specs.declared.content.Content.{Content}
 use Rattle.mime_tree.specs.declared.node.Position.{Position}
 use Rattle.mime_tree.specs.declared.node.Position.TheVariants.{Body, Child}
 use Rattle.mime_tree.specs.declared.node.Node.{Node}
 use Rattle.mime_tree.specs.Body.{places}
-use Rattle.mime_tree.specs.Content.{content_of, is_multipart, is_message, is_alternative, default_in}
+use Rattle.mime_tree.specs.Content.{is_multipart, is_message, is_alternative, default_in}
+use Rattle.mime_content.specs.Content.{content_of}
 use Rattle.mime_tree.specs.Tree.{PartValue, TreeValue}
 
 -- the numbers before those of the children: an embedded message's parts follow its own
@@ -26,7 +27,7 @@ abbrev pub is_body : Position → Bool
 is_body (Body message) = true
 is_body (Child section) = false
 
--- the part at a place of the message, as its header says it
+-- the node at a place of the message
 unfoldable pub node_at : List ℕ → List ℕ → Position → ℕ → Bool → ℕ → ℕ → Node
 node_at bytes default position around enclosed from to =
     let header = header_of (slice_range bytes from to) in
@@ -39,7 +40,7 @@ children_from bytes n number (r ∷ more) =
     node_at bytes (default_in n.content.mime) (Child (prefix_of n.position ++ number ∷ [])) (n.around + 1) n.enclosed (n.body + r.from) (n.body + r.to)
     ∷ children_from bytes n (number + 1) more
 
--- what stands in a multipart or a message: a message's one child is its body
+-- the nodes in a multipart or a message: a message's one child is its body
 unfoldable pub inside : List ℕ → Node → List Node
 inside bytes n =
     if is_multipart n.content.mime then children_from bytes n 1 (places (unwrap_or n.content.boundary []) (slice_range bytes n.body n.to))
@@ -49,14 +50,14 @@ inside bytes n =
 abbrev pub can_open : Node → Bool
 can_open n = nat_le n.around 32 && (is_message n.content.mime || (is_multipart n.content.mime && is_some n.content.boundary))
 
--- a leaf that isn't opened, or whose coding is unknown, is raw
+-- a multipart or a message that isn't opened, and a leaf of an unknown coding, is raw
 abbrev pub is_raw : Content → Bool
 is_raw c = is_multipart c.mime || (is_message c.mime || not (is_some c.coding))
 
 abbrev pub shown_mime : Bool → Content → List ℕ
 shown_mime raw c = if raw then codes "application/octet-stream" else c.mime
 
--- the part that a header and a place make
+-- the part of a section, its fields and a place
 abbrev pub part_value : List ℕ → Bool → Bool → Content → ℕ → List ℕ → PartValue
 part_value section enclosed raw c start body =
     record {
@@ -86,25 +87,25 @@ pub record Opened : Type 0 where
   pub parts : List PartValue
   pub waiting : List Node
 
--- whether a node is opened beside so many other parts: with its children counted as leaves the tree has at most 1,000
+-- whether a node is opened beside `others` other parts: with its children counted as leaves the tree then has at most 1,000
 unfoldable pub opens_beside : List ℕ → ℕ → Node → Bool
 opens_beside bytes others n = can_open n && nat_le (others + length (own bytes n) + length (inside bytes n)) 1000
 
--- the first that waits is opened, or is a leaf
+-- the tree after the first node that waits is opened, or is a leaf
 unfoldable pub settle : List ℕ → List PartValue → Node → List Node → Opened
 settle bytes parts n rest =
     if opens_beside bytes (length parts + length rest) n
     then record { parts = parts ++ own bytes n; waiting = inside bytes n ++ rest }
     else record { parts = parts ++ part_of bytes n (is_raw n.content) ∷ []; waiting = rest }
 
--- so many steps
+-- the tree after `steps` steps
 unfoldable pub opened : List ℕ → ℕ → List PartValue → List Node → Opened
 opened bytes steps parts [] = record { parts = parts; waiting = [] }
 opened bytes zero parts (n ∷ rest) = record { parts = parts; waiting = n ∷ rest }
 opened bytes (suc steps) parts (n ∷ rest) =
     let t = settle bytes parts n rest in opened bytes steps t.parts t.waiting
 
--- the message itself, not yet opened
+-- the node of the message itself
 unfoldable pub message_of : List ℕ → Node
 message_of bytes = node_at bytes (codes "text/plain") (Body None) 0 false 0 (length bytes)
 
@@ -120,7 +121,7 @@ pub record IsPlaced (bytes : List ℕ) (p : PartValue) : Type 0 where
   pub within : p.start + length p.bytes ≤ length bytes
   pub is : p.bytes ≡ slice_range bytes p.start (p.start + length p.bytes)
 
--- a node whose place is one of the message, and whose section is no longer than it is deep
+-- a node at a place of the message, whose section is no longer than the node is deep
 pub record IsSound (bytes : List ℕ) (n : Node) : Type 0 where
   pub ordered : n.body ≤ n.to
   pub within : n.to ≤ length bytes

@@ -3,7 +3,7 @@ use Rattle.std.specs.Prelude.{ℕ, Bool, List, Option}
 use Rattle.header_words.specs.Fields.{Header}
 use Rattle.transfer_codings.specs.declared.coding.Coding.{Coding}
 
--- a part: its section, what its header says of it, whether it stands in a message in the message, and the place of its body
+-- a part: its section, its Content-* fields, whether it is in a message in the message, and the place of its body
 pub record PartValue : Type 0 where
   pub section : List ℕ
   pub mime : List ℕ

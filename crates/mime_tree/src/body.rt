@@ -3,14 +3,14 @@ ghost use Rattle.std.specs.Prelude.{◌≡◌, ◌<◌, ◌≤◌, ◌+◌, ◌+
 ghost use Rattle.std.specs.List.{list_all};
 ghost use Rattle.std.specs.Str.Lines.{strip_carriage_return};
 ghost use Rattle.header_words.specs.Fields.{is_blank};
-ghost use Rattle.mime_tree.specs.Body.{places, delimiters, line_of, IsWithin, closes, delimits, begins, opens, with_part};
+ghost use Rattle.mime_tree.specs.Body.{places, delimiters, line_of, IsWithin, is_closing_line, is_delimiter_line, has_boundary, is_opening_line, with_part};
 
 use header_words::first_line;
 use memchr::memmem::Finder;
 use memchr::memrchr;
 use std::alloc::{AllocError, Global};
 
-/// A place in a text.
+/// A place in a text: `[from, to)`.
 #[derive(Clone, Copy, Drop)]
 pub struct Range {
     pub from: usize,
@@ -166,22 +166,22 @@ fn without_return(line: &[u8]) -> &[u8]
     }
 }
 
-#[tactic(auto, unfolding(crate::specs::Body::delimits))]
+#[tactic(auto, unfolding(crate::specs::Body::is_delimiter_line))]
 fn is_delimiter(boundary: &[u8], line: &[u8]) -> bool
-    ensures { result ≡ delimits boundary.now line.now }
+    ensures { result ≡ is_delimiter_line boundary.now line.now }
 {
     is_opening(boundary, line) || is_closing(boundary, line)
 }
 
 fn is_opening(boundary: &[u8], line: &[u8]) -> bool
-    ensures { result ≡ opens boundary.now line.now }
+    ensures { result ≡ is_opening_line boundary.now line.now }
 {
     begins_with(boundary, line) && all_blank(&line[2 + boundary.len()..])
 }
 
-#[tactic(auto, unfolding(crate::specs::Body::closes))]
+#[tactic(auto, unfolding(crate::specs::Body::is_closing_line))]
 fn is_closing(boundary: &[u8], line: &[u8]) -> bool
-    ensures { result ≡ closes boundary.now line.now }
+    ensures { result ≡ is_closing_line boundary.now line.now }
 {
     if !begins_with(boundary, line) {
         return false;
@@ -191,7 +191,7 @@ fn is_closing(boundary: &[u8], line: &[u8]) -> bool
 }
 
 fn begins_with(boundary: &[u8], line: &[u8]) -> bool
-    ensures says { result ≡ begins boundary.now line.now }
+    ensures equals { result ≡ has_boundary boundary.now line.now }
     ensures room { IsTrue result → 2 + length boundary.now ≤ length line.now }
 {
     line.starts_with(b"--") && line[2..].starts_with(boundary)

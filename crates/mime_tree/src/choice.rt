@@ -1,4 +1,4 @@
-//! The part of a section, and the part that a reader is shown.
+//! Finds the part of a section, and the part to show.
 ghost use Rattle.std.specs.Prelude.{◌≡◌, ◌++◌, ◌∷◌, [], ◌≤◌, length, reverse, find};
 ghost use Rattle.std.specs.Option.{option_copied};
 ghost use Rattle.mime_tree.specs.Best.{part_at, has_section, is_html, is_text, counts, counts_in, is_alternative_at, taken_in, given, shown_as, best_of};
@@ -10,7 +10,7 @@ use transfer_codings::charset_of;
 /// The most numbers of a section.
 const DEPTH: usize = 40;
 
-/// What a reader is shown of a message.
+/// The part of a message to show.
 #[derive(Clone, Copy, Debug, PartialEq, Eq)]
 pub enum Shown {
     /// A plain text.
@@ -21,10 +21,11 @@ pub enum Shown {
     Html(Section),
     /// A text or a page in a charset that isn't read.
     Unread(Section),
+    /// The message has no text and no page.
     Nothing,
 }
 
-/// The part of a section.
+/// Returns the part of a section, if there is one.
 pub fn part<'t, 'a>(tree: &'t Tree<'a>, section: &Section) -> Option<&'t Part<'a>>
     ensures { option_copied result ≡ part_at section.now tree.now.parts }
 {
@@ -43,8 +44,9 @@ fn has_numbers(part: &Part<'_>, numbers: &[u16]) -> bool
     part.section().numbers() == numbers
 }
 
-/// What a reader is shown of a message: in an alternative what the last child that has something to show gives, in every
-/// other multipart the first. Messages in the message aren't entered.
+/// Returns the part to show: in multipart/alternative that of the last child with a text or a page of a read charset, in any
+/// other multipart that of the first. If there is none, returns the first text or page of an unread charset. Attachments don't
+/// count, and messages in the message aren't entered.
 #[tactic(auto, unfolding(crate::specs::Best::best_of))]
 pub fn best(tree: &Tree<'_>) -> Shown
     ensures { result ≡ best_of tree.now }
@@ -58,14 +60,14 @@ pub fn best(tree: &Tree<'_>) -> Shown
     }
 }
 
-/// The first text or page, whatever its charset.
+/// Returns the first text or page of any charset.
 fn first_text<'t, 'a>(tree: &'t Tree<'a>) -> Option<&'t Part<'a>>
     ensures { option_copied result ≡ find is_text tree.now.parts }
 {
     tree.parts().iter().find(|part| is_text(part))
 }
 
-/// The leaf that a message gives.
+/// Returns the leaf to show, one multipart after the other from the outermost in.
 fn given<'t, 'a>(tree: &'t Tree<'a>) -> Option<&'t Part<'a>>
     ensures { option_copied result ≡ given 40 tree.now [] }
 {
@@ -82,7 +84,7 @@ fn given<'t, 'a>(tree: &'t Tree<'a>) -> Option<&'t Part<'a>>
     None
 }
 
-/// The leaf whose child of a multipart is taken.
+/// Returns the leaf whose child of a multipart is chosen.
 fn taken_in<'t, 'a>(tree: &'t Tree<'a>, around: &[u16]) -> Option<&'t Part<'a>>
     ensures { option_copied result ≡ taken_in tree.now around.now }
 {
@@ -108,7 +110,7 @@ fn last_in<'t, 'a>(tree: &'t Tree<'a>, around: &[u16]) -> Option<&'t Part<'a>>
         .find(|part| counts_in(around, part))
 }
 
-/// Whether the multipart of a section is an alternative; the one of no number is the message itself.
+/// Returns whether the multipart of a section is an alternative. The empty section is the message itself.
 fn is_alternative_at(tree: &Tree<'_>, around: &[u16]) -> bool
     ensures { result ≡ is_alternative_at tree.now around.now }
 {
@@ -121,14 +123,14 @@ fn is_alternative_at(tree: &Tree<'_>, around: &[u16]) -> bool
     }
 }
 
-/// Whether a part is a leaf that counts, in the multipart of a section.
+/// Returns whether a part is in the multipart of a section, and may be shown.
 fn counts_in(around: &[u16], part: &Part<'_>) -> bool
     ensures { result ≡ counts_in around.now part.now }
 {
     counts(part) && part.section().numbers().starts_with(around)
 }
 
-/// Whether a part is a text or a page of a read charset, neither attached nor in a message in the message.
+/// Returns whether a part is a text or a page of a read charset, neither attached nor in a message in the message.
 fn counts(part: &Part<'_>) -> bool
     ensures { result ≡ counts part.now }
 {
@@ -147,7 +149,7 @@ fn is_html(part: &Part<'_>) -> bool
     part.mime() == "text/html"
 }
 
-/// How a text or a page of a read charset is shown.
+/// Returns how a text or a page of a read charset is shown.
 pub fn shown_as(part: &Part<'_>) -> Shown
     ensures { result ≡ shown_as part.now }
 {

@@ -1,8 +1,8 @@
 //! Parts that aren't yet opened.
-use crate::content::Content;
 use mail_values::Section;
+use mime_content::Content;
 
-/// Where a part stands.
+/// The place of a part in the numbering.
 #[derive(Clone, Copy)]
 pub enum Position {
     /// It is the whole body of the message of a section, or of the message itself.
@@ -11,8 +11,8 @@ pub enum Position {
     Child(Section),
 }
 
-/// A part that isn't yet opened: where it stands, how many multiparts and messages are around it, whether it stands in a
-/// message in the message, the place of its body, and what its header says.
+/// A part that isn't opened yet. `around` is how many multiparts and messages are around it, `enclosed` whether it is in a message
+/// in the message, and its body is at `[body, to)`.
 #[derive(Drop)]
 pub struct Node {
     pub position: Position,

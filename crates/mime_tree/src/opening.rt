@@ -9,23 +9,24 @@ ghost use Rattle.mime_tree.specs.Opening.{node_at, inside, can_open, section_of,
 ghost use Rattle.mime_tree.specs.declared.node.Position.TheVariants.{Body, Child};
 
 use crate::body::{Range, places_within};
-use crate::content::{Content, read_content};
+use crate::media::{is_message, is_multipart};
 use crate::node::{Node, Position};
 use crate::parts::Part;
 use header_words::{Fields, fields};
 use mail_values::Section;
+use mime_content::{Content, read_content};
 use std::alloc::{AllocError, Global};
 
 /// The most parts of a tree.
 const MOST_PARTS: usize = 1000;
 
-/// So many steps open everything: each opens a node or makes it a leaf.
+/// The most steps that a message takes: each opens a node or makes it a leaf.
 const MOST_STEPS: usize = 2001;
 
 /// The most multiparts and messages around one that is opened.
 const MOST_AROUND: usize = 32;
 
-/// The message itself, not yet opened.
+/// Returns the node of the message itself.
 pub fn message(alloc: Global, bytes: &[u8], header: &Fields<'_>) -> Result<Node, AllocError>
     requires header { header.now ≡ header_of bytes.now }
     requires within { header.now.body ≤ length bytes.now }
@@ -43,15 +44,15 @@ pub fn message(alloc: Global, bytes: &[u8], header: &Fields<'_>) -> Result<Node,
     })
 }
 
-/// The parts of a message.
+/// Opens a message, and returns its parts in tree order.
 pub fn parts_in<'a>(
     alloc: Global,
     bytes: &'a [u8],
     message: Node,
 ) -> Result<Vec<Part<'a>>, AllocError>
-    requires is { message ≡ message_of bytes.now }
+    requires equals { message ≡ message_of bytes.now }
     requires sound { IsSound bytes.now message }
-    ensures is { IfOk result (λ found. found.items ≡ parts_of bytes.now) }
+    ensures equals { IfOk result (λ found. found.items ≡ parts_of bytes.now) }
     ensures placed { IfOk result (λ found. All (IsPlaced bytes.now) found.items) }
 {
     let mut found = Vec::new(alloc);
@@ -66,7 +67,7 @@ pub fn parts_in<'a>(
     Ok(found)
 }
 
-/// The first that waits is opened, or is a leaf. The last of the list waits first.
+/// Opens the next node or records it as a leaf. The last of `waiting` is the next in tree order.
 fn settle_next<'a>(
     alloc: Global,
     bytes: &'a [u8],
@@ -94,7 +95,7 @@ fn settle_next<'a>(
     Ok(())
 }
 
-/// What stands in a node, if it is to be opened beside so many other parts.
+/// Returns the nodes in a node, if it is to be opened beside `others` other parts.
 fn inside_opened(
     alloc: Global,
     bytes: &[u8],
@@ -102,7 +103,7 @@ fn inside_opened(
     node: &Node,
 ) -> Result<Option<Vec<Node>>, AllocError>
     requires sound { IsSound bytes.now node.now }
-    ensures some { IfOk result (λ found. IfSome found (λ v. v.items ≡ inside bytes.now node.now)) }
+    ensures equals { IfOk result (λ found. IfSome found (λ v. v.items ≡ inside bytes.now node.now)) }
     ensures opened { IfOk result (λ found. IfSome found (λ _. opens_beside bytes.now others node.now ≡ true)) }
     ensures all { IfOk result (λ found. IfSome found (λ v. All (IsSound bytes.now) v.items)) }
     ensures none { IfOk result (λ found. IfNone found (opens_beside bytes.now others node.now ≡ false)) }
@@ -120,15 +121,15 @@ fn inside_opened(
     Ok(Some(nodes))
 }
 
-/// How many parts the node itself is: the multipart that is the whole body of a message is none.
+/// Returns how many parts the node itself is: none if it is the multipart that is the whole body of a message.
 fn own_count(bytes: &[u8], node: &Node) -> usize
     ensures few { result ≤ 1 }
-    ensures is { result ≡ length (own bytes.now node.now) }
+    ensures equals { result ≡ length (own bytes.now node.now) }
 {
     if is_hidden(node) { 0 } else { 1 }
 }
 
-/// The nodes wait before the others.
+/// Puts nodes before the others that wait.
 fn put_back(waiting: &mut Vec<Node>, mut nodes: Vec<Node>) -> Result<(), AllocError>
     ensures { OnOk result (reverse waiting.new.items ≡ nodes.items ++ reverse waiting.old.items) }
 {
@@ -138,7 +139,7 @@ fn put_back(waiting: &mut Vec<Node>, mut nodes: Vec<Node>) -> Result<(), AllocEr
     Ok(())
 }
 
-/// What stands in a multipart or a message, if it is at most so many.
+/// Returns the nodes in a multipart or a message, if there are at most `most`.
 fn inside_within(
     alloc: Global,
     bytes: &[u8],
@@ -153,7 +154,7 @@ fn inside_within(
     ensures sound { IfOk result (λ found. IfSome found (λ v. All (IsSound bytes.now) v.items)) }
     ensures many { IfOk result (λ found. IfNone found (most < length (inside bytes.now node.now))) }
 {
-    if !node.content.is_multipart() {
+    if !is_multipart(&node.content) {
         if most == 0 {
             return Ok(None);
         }
@@ -170,11 +171,11 @@ fn inside_within(
     Ok(Some(nodes))
 }
 
-/// The body of a message that stands in this one.
+/// Returns the node of the message in a message/rfc822 part.
 fn embedded(alloc: Global, bytes: &[u8], node: &Node) -> Result<Node, AllocError>
     requires depth { node.now.around ≤ 32 }
     requires sound { IsSound bytes.now node.now }
-    ensures is { IfOk result (λ n. n ≡ node_at bytes.now (codes "text/plain") (Body (Some (section_of node.now.position))) (node.now.around + 1) true node.now.body node.now.to) }
+    ensures equals { IfOk result (λ n. n ≡ node_at bytes.now (codes "text/plain") (Body (Some (section_of node.now.position))) (node.now.around + 1) true node.now.body node.now.to) }
     ensures sound { IfOk result (λ n. IsSound bytes.now n) }
 {
     let section = section(node.position);
@@ -193,7 +194,7 @@ fn embedded(alloc: Global, bytes: &[u8], node: &Node) -> Result<Node, AllocError
     )
 }
 
-/// The children of a multipart.
+/// Returns the nodes of a multipart's parts.
 #[tactic(auto, unfolding(crate::specs::Opening::children_from))]
 fn children(
     alloc: Global,
@@ -205,7 +206,7 @@ fn children(
     requires sound { IsSound bytes.now node.now }
     requires few { length ranges.now ≤ 1000 }
     requires within { All (IsWithin (length (slice_range bytes.now node.now.body node.now.to))) ranges.now }
-    ensures is { IfOk result (λ v. v.items ≡ children_from bytes.now node.now 1 ranges.now) }
+    ensures equals { IfOk result (λ v. v.items ≡ children_from bytes.now node.now 1 ranges.now) }
     ensures sound { IfOk result (λ v. All (IsSound bytes.now) v.items) }
 {
     let mut nodes = Vec::new(alloc);
@@ -224,9 +225,9 @@ fn child(
 ) -> Result<Node, AllocError>
     requires depth { node.now.around ≤ 32 }
     requires sound { IsSound bytes.now node.now }
-    requires some { 1 ≤ number }
+    requires positive { 1 ≤ number }
     requires within { IsWithin (length (slice_range bytes.now node.now.body node.now.to)) range.now }
-    ensures is { IfOk result (λ n. n ≡ node_at bytes.now (default_in node.now.content.mime) (Child (prefix_of node.now.position ++ number ∷ [])) (node.now.around + 1) node.now.enclosed (node.now.body + range.now.from) (node.now.body + range.now.to)) }
+    ensures equals { IfOk result (λ n. n ≡ node_at bytes.now (default_in node.now.content.mime) (Child (prefix_of node.now.position ++ number ∷ [])) (node.now.around + 1) node.now.enclosed (node.now.body + range.now.from) (node.now.body + range.now.to)) }
     ensures sound { IfOk result (λ n. IsSound bytes.now n) }
 {
     let place = Range {
@@ -244,7 +245,7 @@ fn child(
     )
 }
 
-/// The part at a place, as its header says it.
+/// Reads the node at a place of the message.
 #[tactic(auto, unfolding(crate::specs::Opening::node_at))]
 fn node_in(
     alloc: Global,
@@ -259,7 +260,7 @@ fn node_in(
     requires within { place.to ≤ length bytes.now }
     requires short { length (prefix_of position) ≤ around }
     requires shallow { around ≤ 33 }
-    ensures is { IfOk result (λ n. n ≡ node_at bytes.now default.now position around enclosed place.from place.to) }
+    ensures equals { IfOk result (λ n. n ≡ node_at bytes.now default.now position around enclosed place.from place.to) }
     ensures sound { IfOk result (λ n. IsSound bytes.now n) }
 {
     let header = fields(alloc, &bytes[place.from..place.to])?;
@@ -274,9 +275,9 @@ fn node_in(
     })
 }
 
-/// The section of a number after others.
+/// Returns a section with one more number.
 fn joined(prefix: Option<Section>, number: u16) -> Section
-    requires some { 1 ≤ number }
+    requires positive { 1 ≤ number }
     requires room { length (numbers_of prefix) < 40 }
     ensures { result ≡ numbers_of prefix ++ number ∷ [] }
 {
@@ -286,7 +287,7 @@ fn joined(prefix: Option<Section>, number: u16) -> Section
     }
 }
 
-/// The numbers before those of the children.
+/// Returns the section before the numbers of the children.
 fn prefix(position: Position) -> Option<Section>
     ensures { numbers_of result ≡ prefix_of position }
 {
@@ -308,7 +309,7 @@ fn section(position: Position) -> Section
 
 fn part<'a>(bytes: &'a [u8], node: Node, raw: bool) -> Part<'a>
     requires { IsSound bytes.now node }
-    ensures is { result ≡ part_of bytes.now node raw }
+    ensures equals { result ≡ part_of bytes.now node raw }
     ensures placed { IsPlaced bytes.now result }
 {
     let Node {
@@ -329,21 +330,21 @@ fn part<'a>(bytes: &'a [u8], node: Node, raw: bool) -> Part<'a>
     )
 }
 
-/// Whether a node may be opened, whatever else the tree has.
+/// Returns whether a node may be opened, if the tree has room for its parts.
 fn opens(node: &Node) -> bool
     ensures deep { IsTrue result → node.now.around ≤ 32 }
-    ensures is { result ≡ can_open node.now }
+    ensures equals { result ≡ can_open node.now }
 {
     node.around <= MOST_AROUND
-        && (node.content.is_message()
-            || (node.content.is_multipart() && node.content.boundary.is_some()))
+        && (is_message(&node.content)
+            || (is_multipart(&node.content) && node.content.boundary.is_some()))
 }
 
-/// Whether a node is the multipart that is the whole body of a message.
+/// Returns whether a node is the multipart that is the whole body of a message.
 fn is_hidden(node: &Node) -> bool
     ensures { result ≡ (is_body node.now.position && is_multipart node.now.content.mime) }
 {
-    is_whole(node.position) && node.content.is_multipart()
+    is_whole(node.position) && is_multipart(&node.content)
 }
 
 fn is_whole(position: Position) -> bool
@@ -355,11 +356,11 @@ fn is_whole(position: Position) -> bool
     }
 }
 
-/// Whether a leaf isn't opened, or its coding is unknown.
+/// Returns whether a leaf could have been opened, or has an unknown coding.
 fn is_raw(content: &Content) -> bool
     ensures { result ≡ is_raw content.now }
 {
-    content.is_multipart() || content.is_message() || content.coding.is_none()
+    is_multipart(content) || is_message(content) || content.coding.is_none()
 }
 
 fn default_type(content: &Content) -> &'static str

@@ -3,13 +3,14 @@ ghost use Rattle.std.specs.Prelude.{◌≡◌, not, ◌||◌};
 ghost use Rattle.std.specs.Option.{option_copied};
 ghost use Rattle.mime_tree.specs.Content.{is_multipart, is_message};
 
-use crate::content::{Content, has_message, has_parts};
+use crate::media::{has_message, has_parts};
 use header_words::Fields;
 use mail_values::Section;
+use mime_content::Content;
 use std::marker::Model;
 use transfer_codings::Coding;
 
-/// A part of a message, which lends the bytes of its body.
+/// A part of a message. It lends the bytes of its body.
 #[derive(Drop)]
 pub struct Part<'a> {
     section: Section,
@@ -30,7 +31,7 @@ impl<'a> Model for Part<'a> {
     ghost view = { λ p. part_value p.section p.enclosed p.raw p.content p.start p.bytes.now };
 }
 
-/// The tree of a message: its parts in tree order. The multipart that is the whole body of a message is none of them.
+/// The tree of a message: its fields, and its parts in tree order. The multipart that is the whole body of a message is no part.
 #[derive(Drop)]
 pub struct Tree<'a> {
     fields: Fields<'a>,
@@ -69,14 +70,15 @@ impl<'a> Part<'a> {
         }
     }
 
+    /// Returns the section.
     pub fn section(&self) -> &Section
         ensures { result.now ≡ self.now.section }
     {
         &self.section
     }
 
-    /// The type in lower case, as `text/plain`. A leaf that isn't opened, or whose coding is unknown, is
-    /// `application/octet-stream`.
+    /// Returns the type in lower case, as `text/plain`. A multipart or a message that isn't opened, and a leaf of an unknown coding,
+    /// is `application/octet-stream`.
     pub fn mime(&self) -> &str
         ensures { result.now ≡ self.now.mime }
     {
@@ -87,14 +89,14 @@ impl<'a> Part<'a> {
         }
     }
 
-    /// The charset as it is written, or `utf-8`.
+    /// Returns the charset as it is written, or `utf-8` if there is none.
     pub fn charset(&self) -> &str
         ensures { result.now ≡ self.now.charset }
     {
         self.content.charset.as_str()
     }
 
-    /// The coding of the body. An unknown one is read as Plain.
+    /// Returns the coding of the body. An unknown one is `Plain`.
     pub fn coding(&self) -> Coding
         ensures { result ≡ self.now.coding }
     {
@@ -104,14 +106,14 @@ impl<'a> Part<'a> {
         }
     }
 
-    /// The name of the file that the part is to be saved as, or nothing.
+    /// Returns the name of the file that the part is to be saved as, or an empty text.
     pub fn name(&self) -> &str
         ensures { result.now ≡ self.now.name }
     {
         self.content.name.as_str()
     }
 
-    /// What the Content-ID has between `<` and `>`.
+    /// Returns the bytes between the `<` and `>` of the Content-ID.
     pub fn id(&self) -> Option<&[u8]>
         ensures { option_copied result ≡ self.now.id }
     {
@@ -121,7 +123,7 @@ impl<'a> Part<'a> {
         }
     }
 
-    /// The Content-Location.
+    /// Returns the Content-Location.
     pub fn location(&self) -> Option<&str>
         ensures { option_copied result ≡ self.now.location }
     {
@@ -131,28 +133,28 @@ impl<'a> Part<'a> {
         }
     }
 
-    /// Whether DelSp is yes, where the format is flowed (RFC 3676 §4).
+    /// Returns whether DelSp is yes, if the format is flowed (RFC 3676 §4).
     pub fn format(&self) -> Option<bool>
         ensures { result ≡ self.now.format }
     {
         self.content.format
     }
 
-    /// Whether the disposition is attachment (RFC 2183 §2.2).
+    /// Returns whether the disposition is attachment (RFC 2183 §2.2).
     pub fn is_attached(&self) -> bool
         ensures { result ≡ self.now.attached }
     {
         self.content.attached
     }
 
-    /// Whether the part stands in a message in the message.
+    /// Returns whether the part is in a message in the message.
     pub fn is_enclosed(&self) -> bool
         ensures { result ≡ self.now.enclosed }
     {
         self.enclosed
     }
 
-    /// Whether the part is neither a multipart nor a message.
+    /// Returns whether the part is neither a multipart nor a message.
     pub fn is_leaf(&self) -> bool
         ensures { result ≡ not (is_multipart self.now.mime || is_message self.now.mime) }
     {
@@ -160,7 +162,7 @@ impl<'a> Part<'a> {
         !(has_parts(mime) || has_message(mime))
     }
 
-    /// The bytes of the body as they stand in the message, under their coding.
+    /// Returns the bytes of the body as they are in the message, not decoded.
     pub fn bytes(&self) -> &'a [u8]
         ensures { result.now ≡ self.now.bytes }
     {
@@ -179,21 +181,21 @@ impl<'a> Tree<'a> {
         }
     }
 
-    /// The header fields of the message, and where its body begins.
+    /// Returns the header fields of the message, and the place of its body.
     pub fn fields(&self) -> &Fields<'a>
         ensures { result.now ≡ self.now.header }
     {
         &self.fields
     }
 
-    /// The parts in tree order.
+    /// Returns the parts in tree order.
     pub fn parts(&self) -> &[Part<'a>]
         ensures { result.now ≡ self.now.parts }
     {
         &self.parts
     }
 
-    /// Whether the message itself is a multipart/alternative.
+    /// Returns whether the message itself is a multipart/alternative.
     pub fn is_alternative(&self) -> bool
         ensures { result ≡ self.now.alternative }
     {

@@ -1,4 +1,4 @@
--- The bytes of spelled texts, by which the writer's own functions are described.
+-- Spelled texts as bytes.
 use Rattle.std.specs.Prelude.{◌≡◌, ℕ, ◌==◌, if◌then◌else◌, List, [], ◌∷◌, ◌++◌, codes, encode_utf8_all, IsTrue}
 use Rattle.std.specs.List.{flat_map, list_all}
 use Rattle.std.proofs.Math.Utf8.{scalars}
@@ -6,7 +6,7 @@ use Rattle.html_syntax.specs.Characters.{null}
 use Rattle.html_syntax.specs.Token.{Attribute}
 use Rattle.page_writer.specs.Page.{spell_char, spell_chars}
 
--- what is written for a byte of a text in UTF-8; U+FFFD is the bytes EF BF BD
+-- how a byte of a text in UTF-8 is spelled; U+FFFD is the bytes EF BF BD
 abbrev pub spell_byte : ℕ → List ℕ
 spell_byte b = if b == null then 0xEF ∷ 0xBF ∷ 0xBD ∷ [] else spell_char b
 
@@ -17,11 +17,11 @@ spell_bytes bytes = flat_map spell_byte bytes
 unfoldable pub attribute_bytes : List ℕ → List ℕ → List ℕ
 attribute_bytes name value = codes " " ++ name ++ codes "=\"" ++ encode_utf8_all (spell_chars value) ++ codes "\""
 
--- the old bytes still stand in front
+-- `old` is a prefix of `new`
 pub record Extends (old new : List ℕ) : Type 0 where
   pub more : List ℕ
   pub is : new ≡ old ++ more
 
--- the values are texts, of scalar values alone
+-- the values consist of scalar values
 unfoldable pub AreTexts : List Attribute → Type 0
 AreTexts attributes = IsTrue (list_all (λ a. scalars a.value) attributes)

@@ -10,7 +10,7 @@ use Rattle.html_rules.specs.Tables.{Name, is_element, is_void, is_text_only, is_
 
 -- ---- spelling (HTML Standard, 13.1 and 13.3)
 
--- a character of a text or of a value between `"`; U+0000, which no page can hold, is U+FFFD
+-- how a character is spelled in a text or a quoted value; U+0000, which no page can hold, is U+FFFD
 abbrev pub spell_char : ℕ → List ℕ
 spell_char c =
     if c == less_than then codes "&lt;"
@@ -32,7 +32,7 @@ abbrev pub spell_attributes : List Attribute → List ℕ
 spell_attributes [] = []
 spell_attributes (a ∷ rest) = spell_attribute a ++ spell_attributes rest
 
--- no page has a comment
+-- a page has no comments
 abbrev pub spell_token : Token → List ℕ
 spell_token (Start name attributes) = less_than ∷ name ++ spell_attributes attributes ++ greater_than ∷ []
 spell_token (End name) = less_than ∷ solidus ∷ name ++ greater_than ∷ []
@@ -44,22 +44,22 @@ unfoldable pub spell : List Token → List ℕ
 spell [] = []
 spell (t ∷ ts) = spell_token t ++ spell ts
 
--- ---- what may come next
+-- ---- which token may be appended
 
 -- a character other than U+0000
 abbrev pub IsWritable : ℕ → Type 0
 IsWritable c = IsTrue (not (c == null)) × IsScalar c
 
--- the attributes have names of the lists
+-- the attributes have listed names
 abbrev pub are_attributes : List Attribute → Bool
 are_attributes attributes = list_all (λ a. is_attribute_name a.name) attributes
 
--- no two of the attributes have one name
+-- the attributes have different names
 abbrev pub are_distinct : List Attribute → Bool
 are_distinct [] = true
 are_distinct (a ∷ rest) = not (has_name a.name rest) && are_distinct rest
 
--- the innermost open element, if one is open, isn't one of text alone
+-- the innermost open element, if any, may contain tags
 abbrev pub takes_tags : List Name → Bool
 takes_tags [] = true
 takes_tags (name ∷ outer) = not (is_text_only name)
@@ -68,12 +68,12 @@ abbrev pub innermost_is : Name → List Name → Bool
 innermost_is name [] = false
 innermost_is name (inner ∷ outer) = same inner name
 
--- a start tag of this name with these attributes may come where these elements are open, the innermost first
+-- a start tag with this name and these attributes may be appended if these elements are open, innermost first
 abbrev pub MayStart : List Name → Name → List Attribute → Type 0
 MayStart inside name attributes =
     IsTrue (is_element name) × IsTrue (takes_tags inside) × IsTrue (are_attributes attributes) × IsTrue (are_distinct attributes)
 
--- the token may come where these elements are open, the innermost first
+-- the token may be appended if these elements are open, innermost first
 abbrev pub MayAppend : List Name → Token → Type 0
 MayAppend inside (Start name attributes) = MayStart inside name attributes × AllByRecursion (λ a. AllByRecursion IsWritable a.value) attributes
 MayAppend inside (End name) = IsTrue (is_element name) × IsTrue (innermost_is name inside)
@@ -81,7 +81,7 @@ MayAppend inside (Char c) = IsWritable c
 MayAppend inside (Comment text) = ⊥
 MayAppend inside Doctype = IsTrue (takes_tags inside)
 
--- without the innermost
+-- the open elements but the innermost
 abbrev pub outer : List Name → List Name
 outer [] = []
 outer (name ∷ names) = names
@@ -92,7 +92,7 @@ open_elements_after_token inside (Start name attributes) = if is_void name then 
 open_elements_after_token inside (End name) = outer inside
 open_elements_after_token inside t = inside
 
--- each of the tokens may come, where the first elements are open, and the last ones are open after them
+-- the tokens may be appended one after another if `inside` are open, and `after` are open then
 unfoldable pub MayAppendAll : List Name → List Token → List Name → Type 0
 MayAppendAll inside [] after = inside ≡ after
 MayAppendAll inside (t ∷ ts) after = MayAppend inside t × MayAppendAll (open_elements_after_token inside t) ts after

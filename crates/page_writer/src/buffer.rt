@@ -84,7 +84,7 @@ impl PageBytes {
         self.tail.extend_from_slice(markup)
     }
 
-    /// Appends a text, in which every character stands for itself.
+    /// Appends a text, whose characters are escaped as needed.
     pub fn add_text(&mut self, text: &str) -> Result<(), Memory>
         ensures { self.new ≡ (if is_ok result then self.old ++ encode_utf8_all (spell_chars (chars text.now)) else self.old) }
     {

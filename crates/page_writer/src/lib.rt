@@ -33,7 +33,7 @@ use std::marker::Model;
 /// A page that is being written, seen as the tokens written so far and the names of the open elements.
 ///
 /// Text and attribute values may hold any characters; U+0000 is written, and counts, as U+FFFD. Each call leaves the page as
-/// it was where memory is refused.
+/// it was if memory is refused.
 #[derive(Drop)]
 pub struct PageOut {
     bytes: PageBytes,
@@ -71,7 +71,7 @@ impl PageOut {
         self.bytes.add_markup(b"<!DOCTYPE html>")
     }
 
-    /// Writes a text, in which every character stands for itself.
+    /// Writes a text. Its characters are escaped as needed.
     pub fn chars(&mut self, text: &str) -> Result<(), Memory>
         ensures ok { OnOk result (self.new ≡ with_text self.old (chars text.now)) }
         ensures err { OnErr result (self.new ≡ self.old) }
@@ -79,10 +79,10 @@ impl PageOut {
         self.bytes.add_text(text)
     }
 
-    /// Writes a start tag, and opens its element unless that is a void one (HTML Standard, 13.1.2).
+    /// Writes a start tag, and opens its element unless it is void (HTML Standard, 13.1.2).
     ///
-    /// The name is one of the elements, and the attributes have names of the lists, no two of one name. Inside an open `title`
-    /// or `textarea` no tag may stand.
+    /// The element and the attributes are listed, and the attributes have different names. An open `title` or `textarea` takes no
+    /// tags.
     pub fn start(
         &mut self,
         alloc: Global,

@@ -1,7 +1,6 @@
-//! How the parts of a page are written (HTML Standard, 13.1.2 and 13.3).
+//! The spelling of tags and texts (HTML Standard, 13.1.2 and 13.3).
 //!
-//! The functions `push_..` append to a buffer, and may leave a part behind where memory is refused; the functions `add_..` and
-//! `open_element` then take it back.
+//! The functions `push_..` append to a buffer, and leave a prefix if memory is refused; the functions `add_..` then remove it.
 
 ghost use Rattle.std.specs.Prelude.{◌≡◌, ℕ, ◌<◌, ◌≤◌, List, [], ◌∷◌, ◌++◌, ◌+◌, ◌*◌, length, take, chars, encode_utf8_all, string_bytes, vec_len, vec_capacity, OnOk, OnErr, IsOk, is_ok, if◌then◌else◌, IsTrue};
 ghost use Rattle.page_writer.specs.Writer.{names_of};
@@ -14,10 +13,10 @@ use html_syntax::Attributes;
 use memchr::memchr3;
 use std::alloc::Global;
 
-/// So many bytes of a text are looked at together for one that may not stand for itself.
+/// Bytes of a text that are searched together for one that is escaped.
 const CHUNK: usize = 64;
 
-/// A text makes room for itself and for so many bytes after it, so that a long one is copied once.
+/// Room in bytes that is made beyond a text, so that what follows it rarely moves it.
 const ROOM: usize = 4096;
 
 fn push(out: &mut Vec<u8>, bytes: &[u8]) -> Result<(), Memory>
@@ -131,9 +130,9 @@ fn push_end(out: &mut Vec<u8>, name: &str) -> Result<(), Memory>
     push(out, b">")
 }
 
-/// Takes back what stands behind the first `before` bytes, where the writing was refused memory.
-fn settle(out: &mut Vec<u8>, before: usize, written: Result<(), Memory>) -> Result<(), Memory>
-    ensures same { result ≡ written }
+/// Truncates the buffer to its first `before` bytes if `written` failed.
+fn undo_on_err(out: &mut Vec<u8>, before: usize, written: Result<(), Memory>) -> Result<(), Memory>
+    ensures returns_written { result ≡ written }
     ensures items { out.new.items ≡ (if is_ok written then out.old.items else take before out.old.items) }
 {
     if written.is_err() {
@@ -148,7 +147,7 @@ pub fn add_text(out: &mut Vec<u8>, text: &str) -> Result<(), Memory>
     out.reserve(text.len() + ROOM)?;
     let before = out.len();
     let written = push_text(out, text);
-    settle(out, before, written)
+    undo_on_err(out, before, written)
 }
 
 pub fn add_start(out: &mut Vec<u8>, name: &str, attributes: &Attributes) -> Result<(), Memory>
@@ -157,7 +156,7 @@ pub fn add_start(out: &mut Vec<u8>, name: &str, attributes: &Attributes) -> Resu
 {
     let before = out.len();
     let written = push_start(out, name, attributes);
-    settle(out, before, written)
+    undo_on_err(out, before, written)
 }
 
 pub fn add_end(out: &mut Vec<u8>, name: &str) -> Result<(), Memory>
@@ -165,5 +164,5 @@ pub fn add_end(out: &mut Vec<u8>, name: &str) -> Result<(), Memory>
 {
     let before = out.len();
     let written = push_end(out, name);
-    settle(out, before, written)
+    undo_on_err(out, before, written)
 }

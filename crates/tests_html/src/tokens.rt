@@ -1,3 +1,5 @@
+use crate::tables::contents::CONTENTS;
+use crate::tables::messages::MESSAGES;
 use crate::tables::more_prefixes::MORE_PREFIXES;
 use crate::tables::prefixes::PREFIXES;
 use crate::tables::tags::TAGS;
@@ -38,19 +40,40 @@ fn push_token(out: &mut String, token: &str) -> Result<(), Memory> {
     out.push_str(token)
 }
 
-#[test]
-fn texts_have_the_tokens_that_html5lib_gives(rt: HostRuntime) -> Result<(), Fail> {
-    for (text, tokens) in TEXTS.iter().chain(&TAGS) {
-        assert_eq!(rt;
-            tokens_of(rt.alloc(), *text)?.as_str(),
-            *tokens,
-            "in {text:?}"
-        );
+// Compares the tokens of each text with those after it in the table.
+fn assert_table(rt: &impl Abort, alloc: Global, table: &[&str]) -> Result<(), Fail> {
+    for row in table.chunks(2) {
+        match row {
+            [text, tokens] => {
+                assert_eq!(rt; tokens_of(alloc, *text)?.as_str(), *tokens, "in {text:?}");
+            }
+            _ => return Err("a text without tokens".into()),
+        }
     }
     Ok(())
 }
 
-// The tokens that a line gives: so many characters of the line before, and what comes after them.
+#[test]
+fn texts_have_the_tokens_that_html5lib_gives(rt: HostRuntime) -> Result<(), Fail> {
+    assert_table(&rt, rt.alloc(), &TEXTS)
+}
+
+#[test]
+fn contents_have_the_tokens_that_html5lib_gives(rt: HostRuntime) -> Result<(), Fail> {
+    assert_table(&rt, rt.alloc(), &CONTENTS)
+}
+
+#[test]
+fn tags_have_the_tokens_that_html5lib_gives(rt: HostRuntime) -> Result<(), Fail> {
+    assert_table(&rt, rt.alloc(), &TAGS)
+}
+
+#[test]
+fn messages_have_the_tokens_that_html5lib_gives(rt: HostRuntime) -> Result<(), Fail> {
+    assert_table(&rt, rt.alloc(), &MESSAGES)
+}
+
+// The tokens of a line: it tells how many characters of the tokens before are kept, and what comes after them.
 fn tokens_in(alloc: Global, before: &str, line: &str) -> Result<String, Fail> {
     let (kept, more) = line.split_once('|').ok_or("a line without a bar")?;
     let kept = kept.parse::<usize>().ok().ok_or("a line without a number")?;

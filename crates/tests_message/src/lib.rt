@@ -4,6 +4,8 @@
 #[cfg(test)]
 mod codings;
 #[cfg(test)]
+mod contents;
+#[cfg(test)]
 mod flowed;
 #[cfg(test)]
 mod headers;

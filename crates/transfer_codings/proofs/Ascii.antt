@@ -10,9 +10,9 @@ use Rattle.base64.specs.Engines.{standard}
 use Rattle.base64.specs.GeneralPurpose.{IsBytes, encode_of}
 use Rattle.base64.proofs.EngineFacts.{IsAscii-encode_of, front_bytes}
 use Rattle.transfer_codings.specs.Base64.{base64_line, base64_lines, line_piece}
-use Rattle.transfer_codings.specs.QuotedRows.{break, broken_lines, column_after, escape_of, fits, is_empty, placed_unit, quoted_text, rest_of_line, rows_text, soft_break, stands, unit_of, upper_digit}
+use Rattle.transfer_codings.specs.QuotedRows.{break, broken_lines, column_after, escape_of, fits, is_empty, placed_unit, quoted_text, rest_of_line, rows_text, soft_break, is_literal, unit_of, upper_digit}
 use Rattle.transfer_codings.proofs.QuotedWritten.{back_bytes, join-broken_lines, plainly}
-use Rattle.transfer_codings.proofs.RowLemmas.{broken_lines-some, rows_text-rest, unit_of-escaped, unit_of-stands}
+use Rattle.transfer_codings.proofs.RowLemmas.{broken_lines-some, rows_text-rest, unit_of-escaped, unit_of-literal}
 
 break-ascii : IsAscii (13 ∷ 10 ∷ [])
 break-ascii = IsAscii-cons 13 (10 ∷ []) (omega arith) (IsAscii-cons 10 [] (omega arith) IsAscii-nil)
@@ -43,13 +43,13 @@ escape-ascii byte small =
     (IsAscii-cons low [] (digit-ascii (nat_lt (byte % 16) 10) (byte % 16) (omega arith)) IsAscii-nil))
 
 unit-ascii : (at_end : Bool) (byte : ℕ) → byte < 256 → IsAscii (unit_of at_end byte)
-unit-ascii at_end byte small = elim (cases_Bool (stands at_end byte)) [
+unit-ascii at_end byte small = elim (cases_Bool (is_literal at_end byte)) [
   | inl plain ↦
       let outer = and_parts (nat_le 32 byte && nat_le byte 126 && not (byte == 61)) (not (at_end && (byte == 32))) plain in
       let middle = and_parts (nat_le 32 byte && nat_le byte 126) (not (byte == 61)) outer.0 in
       let inner = and_parts (nat_le 32 byte) (nat_le byte 126) middle.0 in
       let high : byte ≤ 126 = leb-true byte 126 inner.1 in
-      subst IsAscii (sym (unit_of-stands at_end byte plain)) (IsAscii-cons byte [] (omega arith) IsAscii-nil)
+      subst IsAscii (sym (unit_of-literal at_end byte plain)) (IsAscii-cons byte [] (omega arith) IsAscii-nil)
   | inr other ↦ subst IsAscii (sym (unit_of-escaped at_end byte other)) (escape-ascii byte small)
 ]
 

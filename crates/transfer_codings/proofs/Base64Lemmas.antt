@@ -8,7 +8,7 @@ use Rattle.base64.proofs.Tables.{all_below_at}
 use Rattle.transfer_codings.specs.declared.base64_text.TheConstants.{SEXTETS}
 use Rattle.transfer_codings.specs.Base64.{alphabet, bytes_of, sextet_of, sextets}
 
--- the table's entry stands for this sextet, or for none
+-- the table's entry is this sextet, or none
 abbrev agrees : Option ℕ → ℕ → Bool
 agrees (Some sextet) entry = sextet == entry
 agrees None entry = nat_le 64 entry
@@ -51,7 +51,7 @@ sextets-some text i sextet lt e = ap sextets (drop_more text i 0 lt) ∙ ap (λ 
 pub sextets-none : (text : List ℕ) (i : ℕ) → i < length text → sextet_of (get_or text i 0) ≡ None → sextets (drop i text) ≡ sextets (drop (i + 1) text)
 sextets-none text i lt e = ap sextets (drop_more text i 0 lt) ∙ ap (λ o. cons_option o (sextets (drop (i + 1) text))) e
 
--- the bytes of few sextets, after what stands before them
+-- the bytes of few sextets, after the bytes before them
 pub bytes_of-none : (front text : List ℕ) → sextets text ≡ [] → front ≡ front ++ bytes_of (sextets text)
 unfolding bytes_of
 bytes_of-none front text e = rw e (sym (append-nil front))

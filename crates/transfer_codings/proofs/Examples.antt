@@ -3,12 +3,14 @@ use Rattle.std.proofs.Common.{◌≡◌, [], ◌∷◌, ◌++◌, Some, None, re
 use Rattle.std.specs.Prelude.{codes, replicate}
 use Rattle.transfer_codings.specs.declared.charset.Charset.TheVariants.{Utf8, Ascii, Latin1}
 use Rattle.transfer_codings.specs.Base64.{base64_bytes, base64_line, base64_lines, base64_text, bytes_of, sextet_of}
+use Rattle.transfer_codings.specs.declared.coding.Coding.TheVariants.{Plain, Base64, Quoted}
+use Rattle.transfer_codings.specs.Codings.{decoded}
 use Rattle.transfer_codings.specs.Charsets.{charset_named, text_in}
 use Rattle.base64.specs.Rfc4648.{encode_symbols}
 use Rattle.transfer_codings.specs.Quoted.{line_bytes, quoted_bytes, unescaped, without_blanks}
 use Rattle.transfer_codings.specs.QuotedRows.{broken_lines, quoted_text, rows_text, unit_of}
 
--- ---- base64: the test vectors of RFC 4648, section 10
+-- ---- base64: the test vectors of RFC 4648 §10
 
 vector_0 : base64_bytes [] ≡ []
 unfolding bytes_of sextet_of
@@ -43,12 +45,12 @@ passed_over : base64_bytes (codes "Zm" ++ 13 ∷ 10 ∷ codes " 9-v!Ym" ++ 200 �
 unfolding bytes_of sextet_of
 passed_over = refl
 
--- nothing after the first `=` counts
+-- decoding stops at the first `=`
 ended : base64_bytes (codes "Zg==Zm9v") ≡ codes "f"
 unfolding bytes_of sextet_of
 ended = refl
 
--- a character that is left alone stands for nothing, and neither do bits that are left over
+-- a character that is left over gives no byte, and neither do bits
 left_alone : base64_bytes (codes "Zm9vY") ≡ codes "foo"
 unfolding bytes_of sextet_of
 left_alone = refl
@@ -57,7 +59,7 @@ left_over : base64_bytes (codes "Zh") ≡ codes "f"
 unfolding bytes_of sextet_of
 left_over = refl
 
--- ---- quoted-printable: the soft breaks of RFC 2045, section 6.7
+-- ---- quoted-printable: the soft breaks of RFC 2045 §6.7
 
 soft_breaks : quoted_bytes (codes "Now's the time =" ++ 13 ∷ 10 ∷ codes "for all folk to come=" ++ 13 ∷ 10 ∷ codes " to the aid of their country.")
     ≡ codes "Now's the time for all folk to come to the aid of their country."
@@ -69,12 +71,12 @@ either_case : quoted_bytes (codes "caf=e9 =3D 1=" ++ 13 ∷ 10 ∷ codes "0") �
 unfolding line_bytes quoted_bytes unescaped without_blanks
 either_case = refl
 
--- an `=` that begins no escape and no soft break stands for itself
+-- an `=` that begins no escape and no soft break is itself
 bad_equals : quoted_bytes (codes "a==b=4=G1= c=" ++ 13 ∷ codes "=3d=") ≡ codes "a==b=4=G1= c=" ++ 13 ∷ codes "="
 unfolding line_bytes quoted_bytes unescaped without_blanks
 bad_equals = refl
 
--- blanks before the end of a line go, also after the `=` of a soft break, and its LF may stand alone
+-- blanks before the end of a line are dropped, also after the `=` of a soft break; a line may end with LF alone
 blanks : quoted_bytes (codes "a " ++ 9 ∷ 13 ∷ 10 ∷ codes "b= " ++ 9 ∷ 10 ∷ codes " c" ++ 10 ∷ codes "=20  ") ≡ codes "a" ++ 13 ∷ 10 ∷ codes "b c" ++ 10 ∷ codes " "
 unfolding line_bytes quoted_bytes unescaped without_blanks
 blanks = refl
@@ -83,6 +85,19 @@ blanks = refl
 lone_return : quoted_bytes (codes "a " ++ 13 ∷ 13 ∷ 10 ∷ codes "b =" ++ 13 ∷ []) ≡ codes "a " ++ 13 ∷ 13 ∷ 10 ∷ codes "b =" ++ 13 ∷ []
 unfolding line_bytes quoted_bytes unescaped without_blanks
 lone_return = refl
+
+-- ---- the codings
+
+plain : decoded Plain (codes "a=" ++ 13 ∷ 10 ∷ codes "Zg==") ≡ codes "a=" ++ 13 ∷ 10 ∷ codes "Zg=="
+plain = refl
+
+base64 : decoded Base64 (codes "Zg==") ≡ codes "f"
+unfolding bytes_of sextet_of
+base64 = refl
+
+quoted : decoded Quoted (codes "=66=") ≡ codes "f"
+unfolding line_bytes quoted_bytes unescaped without_blanks
+quoted = refl
 
 -- ---- charsets
 
@@ -94,6 +109,18 @@ mixed_case = refl
 
 short_name : charset_named (codes "ascii") ≡ Some Ascii
 short_name = refl
+
+short_utf8 : charset_named (codes "utf8") ≡ Some Utf8
+short_utf8 = refl
+
+us_ascii : charset_named (codes "US-ascii") ≡ Some Ascii
+us_ascii = refl
+
+latin1 : charset_named (codes "latin1") ≡ Some Latin1
+latin1 = refl
+
+no_name : charset_named [] ≡ None
+no_name = refl
 
 other_charset : charset_named (codes "koi8-r") ≡ None
 other_charset = refl

@@ -19,7 +19,7 @@ lines_of_parts-more : (part : List ℕ) (parts : List (List ℕ)) → 0 < length
 lines_of_parts-more part [] some = absurd (omega arith)
 lines_of_parts-more part (next ∷ more) some = refl
 
--- a line and its break stand before the lines of the rest
+-- a line and its break come before the lines of the rest
 pub lines-break : (line rest : List ℕ) → All (λ byte. is_line_feed byte ≡ false) line
     → lines (line ++ 13 ∷ 10 ∷ rest) ≡ line ∷ lines rest
 lines-break line rest plain =

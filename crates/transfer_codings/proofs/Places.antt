@@ -1,4 +1,4 @@
--- What stands at the front of a list after writes one behind the other.
+-- The front of a list after two writes, one after the other.
 use Rattle.std.proofs.Common.{◌≡◌, ℕ, ◌+◌, ◌<◌, List, [], ◌∷◌, ◌++◌, length, set, take, sym, ap, ◌∙◌, arith, append_assoc, length-append, length-set}
 use Rattle.std.proofs.lemmas.List.{take_at, take_more_set}
 

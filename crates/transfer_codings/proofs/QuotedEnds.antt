@@ -39,7 +39,7 @@ without_blanks-push front x solid =
     let line = front ++ x ∷ [] in
     take_all (length line - suffix_len is_blank line) line (omega (arith, no_blanks front x solid))
 
--- a line that is read as it stands, up to its break
+-- a line that is read as it is, up to its break
 pub record EndsWell (line : List ℕ) : Type 0 where
   pub trimmed : without_blanks line ≡ line
   pub hard : ends_in 61 line ≡ false

@@ -13,7 +13,7 @@ unescaped_parts-onto_first : (b : ℕ) (parts : List (List ℕ)) → unescaped_p
 unescaped_parts-onto_first b [] = refl
 unescaped_parts-onto_first b (part ∷ parts) = refl
 
--- a character that is no `=` stands for itself
+-- a character that is no `=` is itself
 pub unescaped-plain : (b : ℕ) (text : List ℕ) → is_equals b ≡ false → unescaped (b ∷ text) ≡ b ∷ unescaped text
 unfolding unescaped
 unescaped-plain b text other =
@@ -57,7 +57,7 @@ flat_map-none : (parts : List (List ℕ)) → 0 < length parts → escaped_byte 
 flat_map-none [] some e = absurd (omega arith)
 flat_map-none (part ∷ parts) some e = ap (λ o. with_escape o part ++ flat_map after_equals parts) e
 
--- an `=` without two digits after it stands for itself
+-- an `=` without two digits after it is itself
 pub unescaped-none : (text : List ℕ) → escaped_byte text ≡ None → unescaped (61 ∷ text) ≡ 61 ∷ unescaped text
 unfolding unescaped
 unescaped-none text e =
@@ -68,7 +68,7 @@ flat_map-some : (high low byte : ℕ) (parts : List (List ℕ)) → byte_of_digi
 flat_map-some high low byte [] e = ap (λ o. with_escape o (high ∷ low ∷ []) ++ []) e
 flat_map-some high low byte (part ∷ parts) e = ap (λ o. with_escape o (high ∷ low ∷ part) ++ flat_map after_equals parts) e
 
--- an `=` and two digits stand for a byte
+-- an `=` and two digits are one byte
 pub unescaped-some : (text : List ℕ) (byte : ℕ) → escaped_byte text ≡ Some byte → unescaped (61 ∷ text) ≡ byte ∷ unescaped (drop 2 text)
 unfolding unescaped
 unescaped-some [] byte e = cc
@@ -97,7 +97,7 @@ plain_run (b ∷ front) rest plain =
     unescaped-plain b (front ++ rest) (All-head (λ x. is_equals x ≡ false) b front plain)
     ∙ ap (λ xs. b ∷ xs) (plain_run front rest (All-tail (λ x. is_equals x ≡ false) b front plain))
 
--- the text up to the next `=` stands for itself
+-- the text up to the next `=` is itself
 pub unescaped-run : (text : List ℕ) (run : ℕ) → run ≡ position_or_len is_equals text → unescaped text ≡ take run text ++ unescaped (drop run text)
 unescaped-run text run place =
     ap unescaped (sym (take-append-drop run text))
@@ -151,7 +151,7 @@ pub line_bytes-hard : (line ending text : List ℕ) → text ≡ without_blanks 
 unfolding line_bytes
 line_bytes-hard line ending text e hard = rw (← e, hard) refl
 
--- a line cut where no blank stands before the cut, with nothing but blanks after it
+-- a line cut after a byte that is no blank, with only blanks after the cut
 pub without_blanks-is : (line : List ℕ) (end : ℕ) → end ≤ length line
     → end + suffix_len is_blank line ≡ length line + suffix_len is_blank (take end line)
     → suffix_len is_blank (take end line) ≡ 0 → take end line ≡ without_blanks line

@@ -12,12 +12,12 @@ use Rattle.base64.proofs.Tables.{all_below_at}
 use Rattle.base64.proofs.EngineFacts.{front_bytes}
 use Rattle.transfer_codings.specs.Base64.{is_equals}
 use Rattle.transfer_codings.specs.Quoted.{byte_of_digits, hex_value, is_blank, is_line_feed, quoted_bytes, unescaped}
-use Rattle.transfer_codings.specs.QuotedRows.{break, broken_lines, column_after, escape_of, fits, is_empty, placed_unit, quoted_text, rest_of_line, rows_text, stands, unit_of, upper_digit}
+use Rattle.transfer_codings.specs.QuotedRows.{break, broken_lines, column_after, escape_of, fits, is_empty, placed_unit, quoted_text, rest_of_line, rows_text, is_literal, unit_of, upper_digit}
 use Rattle.transfer_codings.proofs.Base64Written.{is_value, is_value-some}
 use Rattle.transfer_codings.proofs.Lines.{lines-break}
 use Rattle.transfer_codings.proofs.QuotedEnds.{EndsWell, IsOneLine, ends_well-nothing, ends_well-push, quoted_bytes-end, quoted_bytes-hard, quoted_bytes-soft}
 use Rattle.transfer_codings.proofs.QuotedLemmas.{unescaped-plain, unescaped-some}
-use Rattle.transfer_codings.proofs.RowLemmas.{broken_lines-some, rows_text-rest, unit_of-escaped, unit_of-stands}
+use Rattle.transfer_codings.proofs.RowLemmas.{broken_lines-some, rows_text-rest, unit_of-escaped, unit_of-literal}
 
 -- ---- digits
 
@@ -77,8 +77,8 @@ record IsUnit (at_end : Bool) (unit : List ℕ) (byte : ℕ) : Type 0 where
   short : length unit ≤ 3
   ends : at_end ≡ true → (front : List ℕ) → EndsWell (front ++ unit)
 
-unit-stands : (at_end : Bool) (byte : ℕ) → stands at_end byte ≡ true → IsUnit at_end (byte ∷ []) byte
-unit-stands at_end byte h =
+unit-literal : (at_end : Bool) (byte : ℕ) → is_literal at_end byte ≡ true → IsUnit at_end (byte ∷ []) byte
+unit-literal at_end byte h =
     let plain : ℕ → Type 0 = λ b. is_line_feed b ≡ false in
     let outer = and_parts (nat_le 32 byte && nat_le byte 126 && not (byte == 61)) (not (at_end && (byte == 32))) h in
     let middle = and_parts (nat_le 32 byte && nat_le byte 126) (not (byte == 61)) outer.0 in
@@ -117,8 +117,8 @@ unit-escaped at_end byte small =
     }
 
 unit-is : (at_end : Bool) (byte : ℕ) → byte < 256 → IsUnit at_end (unit_of at_end byte) byte
-unit-is at_end byte small = elim (cases_Bool (stands at_end byte)) [
-  | inl plain ↦ subst (λ (unit : List ℕ). IsUnit at_end unit byte) (sym (unit_of-stands at_end byte plain)) (unit-stands at_end byte plain)
+unit-is at_end byte small = elim (cases_Bool (is_literal at_end byte)) [
+  | inl plain ↦ subst (λ (unit : List ℕ). IsUnit at_end unit byte) (sym (unit_of-literal at_end byte plain)) (unit-literal at_end byte plain)
   | inr other ↦ subst (λ (unit : List ℕ). IsUnit at_end unit byte) (sym (unit_of-escaped at_end byte other)) (unit-escaped at_end byte small)
 ]
 

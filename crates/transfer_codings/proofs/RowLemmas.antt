@@ -2,13 +2,13 @@
 use Rattle.std.proofs.Common.{◌≡◌, ℕ, ◌+◌, ◌<◌, ◌≤◌, ◌==◌, Bool, true, false, cond, ◌&&◌, List, [], ◌∷◌, ◌++◌, length, get_or, take, drop, refl, sym, ap, ◌∙◌, arith}
 use Rattle.std.specs.List.{flat_map, join_by, onto_first}
 use Rattle.std.proofs.lemmas.List.{append-nil, append_assoc, drop_more, length-append, length-drop, take-append-drop, take_more}
-use Rattle.transfer_codings.specs.QuotedRows.{break, broken_lines, column_after, ended_row, escape_of, fits, is_empty, next_row, placed_unit, quoted_text, rest_of_line, rows_from, rows_text, soft_break, stands, unit_column, unit_of}
+use Rattle.transfer_codings.specs.QuotedRows.{break, broken_lines, column_after, ended_row, escape_of, fits, is_empty, next_row, placed_unit, quoted_text, rest_of_line, rows_from, rows_text, soft_break, is_literal, unit_column, unit_of}
 
-pub unit_of-stands : (at_end : Bool) (byte : ℕ) → stands at_end byte ≡ true → unit_of at_end byte ≡ byte ∷ []
+pub unit_of-literal : (at_end : Bool) (byte : ℕ) → is_literal at_end byte ≡ true → unit_of at_end byte ≡ byte ∷ []
 unfolding unit_of
-unit_of-stands at_end byte e = rw e refl
+unit_of-literal at_end byte e = rw e refl
 
-pub unit_of-escaped : (at_end : Bool) (byte : ℕ) → stands at_end byte ≡ false → unit_of at_end byte ≡ escape_of byte
+pub unit_of-escaped : (at_end : Bool) (byte : ℕ) → is_literal at_end byte ≡ false → unit_of at_end byte ≡ escape_of byte
 unfolding unit_of
 unit_of-escaped at_end byte e = rw e refl
 

@@ -1,23 +1,23 @@
--- Base64 (RFC 4648, section 4) as mail reads it (RFC 2045, section 6.8).
+-- Base64 (RFC 4648 §4) as mail reads it (RFC 2045 §6.8).
 use Rattle.std.specs.Prelude.{◌≡◌, ℕ, ◌+◌, ◌*◌, ◌/◌, ◌%◌, ◌<◌, ◌≤◌, ◌==◌, Bool, List, [], ◌∷◌, ◌++◌, length, take, drop, codes, Option}
 use Rattle.std.specs.List.{position, filter_map, flat_map, before_first, range_with_len}
 use Rattle.base64.specs.Engines.{standard}
 use Rattle.base64.specs.GeneralPurpose.{encode_of}
 
--- the characters, in the order of the values that they stand for
+-- the characters, in the order of their values
 abbrev pub alphabet : List ℕ
 alphabet = codes "ABCDEFGHIJKLMNOPQRSTUVWXYZabcdefghijklmnopqrstuvwxyz0123456789+/"
 
--- the six bits that a character stands for: its place in the alphabet
+-- the six bits of a character: its place in the alphabet
 unfoldable pub sextet_of : ℕ → Option ℕ
 sextet_of character = position (λ letter. letter == character) alphabet
 
--- the sextets of a text, in which other characters are passed over
+-- the sextets of a text; other characters are skipped
 abbrev pub sextets : List ℕ → List ℕ
 sextets text = filter_map sextet_of text
 
--- the bytes of a list of sextets: four are three bytes, and at the end three are two and two are
--- one. The bits left over, and a sextet that is left alone, stand for nothing
+-- the bytes of a list of sextets: four give three bytes, and at the end three give two and two give one. Bits that are left over,
+-- and a single sextet that is left over, give none
 unfoldable pub bytes_of : List ℕ → List ℕ
 bytes_of [] = []
 bytes_of (a ∷ []) = []
@@ -30,11 +30,11 @@ bytes_of (a ∷ b ∷ c ∷ d ∷ more) =
 abbrev pub is_equals : ℕ → Bool
 is_equals character = character == 61
 
--- what a base64 text decodes to: the bytes of the sextets before the first `=`
+-- the bytes of a base64 text: those of the sextets before the first `=`
 abbrev pub base64_bytes : List ℕ → List ℕ
 base64_bytes text = bytes_of (sextets (before_first is_equals text))
 
--- a line of the base64 text of bytes: their encoding (RFC 4648, section 4), and CR LF
+-- a line of the base64 text of bytes: their encoding (RFC 4648 §4), and CR LF
 unfoldable pub base64_line : List ℕ → List ℕ
 base64_line bytes = encode_of standard bytes ++ 13 ∷ 10 ∷ []
 
@@ -42,7 +42,7 @@ base64_line bytes = encode_of standard bytes ++ 13 ∷ 10 ∷ []
 abbrev pub line_piece : List ℕ → ℕ → List ℕ
 line_piece bytes number = take 57 (drop (57 * number) bytes)
 
--- so many lines of the base64 text of bytes, from the one with this number on
+-- `count` lines of the base64 text of bytes, from line `first` on
 unfoldable pub base64_lines : List ℕ → ℕ → ℕ → List ℕ
 base64_lines bytes first count = flat_map (λ number. base64_line (line_piece bytes number)) (range_with_len first count)
 
@@ -50,8 +50,7 @@ base64_lines bytes first count = flat_map (λ number. base64_line (line_piece by
 abbrev pub base64_text : List ℕ → List ℕ
 base64_text bytes = base64_lines bytes 0 ((length bytes + 56) / 57)
 
--- a text has these four sextets first, and then those of the rest, which is shorter by four
--- characters at least
+-- a text has these four sextets first, and then those of the rest, which is at least four characters shorter
 pub record HasFour (text : List ℕ) (four : ℕ × ℕ × ℕ × ℕ) (rest : List ℕ) : Type 0 where
   pub sextets_are : sextets text ≡ four.0 ∷ four.1 ∷ four.2 ∷ four.3 ∷ sextets rest
   pub first : four.0 < 64

@@ -1,4 +1,4 @@
--- Quoted-printable (RFC 2045, section 6.7) as mail reads it.
+-- Quoted-printable (RFC 2045 §6.7) as it is read.
 use Rattle.std.specs.Prelude.{ℕ, ◌+◌, ◌-◌, ◌*◌, ◌==◌, nat_le, nat_lt, Bool, ◌&&◌, ◌||◌, if◌then◌else◌, List, [], ◌∷◌, ◌++◌, length, take, drop, slice_index, Option, Some, None}
 use Rattle.std.specs.List.{slice_split, flat_map, suffix_len}
 use Rattle.transfer_codings.specs.Base64.{is_equals}
@@ -17,27 +17,27 @@ byte_of_digits (Some high) (Some low) = Some (high * 16 + low)
 byte_of_digits (Some high) None = None
 byte_of_digits None low = None
 
--- the byte that the first two characters of a text write, where they are hexadecimal digits
+-- the byte of the first two characters of a text, if they are hexadecimal digits
 abbrev pub escaped_byte : List ℕ → Option ℕ
 escaped_byte [] = None
 escaped_byte (high ∷ []) = None
 escaped_byte (high ∷ low ∷ _) = byte_of_digits (hex_value high) (hex_value low)
 
--- a text with its first two characters as the byte that they write, or with an `=` before it
+-- a text whose first two characters are an escaped byte, or else with the `=` before it
 abbrev pub with_escape : Option ℕ → List ℕ → List ℕ
 with_escape (Some byte) text = byte ∷ drop 2 text
 with_escape None text = 61 ∷ text
 
--- what an `=` and the text up to the next one stand for
+-- the bytes of an `=` and the text up to the next one
 abbrev pub after_equals : List ℕ → List ℕ
 after_equals text = with_escape (escaped_byte text) text
 
--- what the parts of a text between its `=` stand for
+-- the bytes of the parts of a text between its `=`
 abbrev pub unescaped_parts : List (List ℕ) → List ℕ
 unescaped_parts [] = []
 unescaped_parts (first ∷ others) = first ++ flat_map after_equals others
 
--- a text with each `=` and two hexadecimal digits as the byte that they write
+-- a text with each `=` and two hexadecimal digits as one byte
 unfoldable pub unescaped : List ℕ → List ℕ
 unescaped text = unescaped_parts (slice_split is_equals text)
 
@@ -57,22 +57,21 @@ ends_in byte line = nat_lt 0 (length line) && (slice_index line (length line - 1
 abbrev pub without_last : List ℕ → List ℕ
 without_last line = take (length line - 1) line
 
--- what a line without blanks at its end stands for, with its line break: an `=` there is a soft
--- break, and goes with the break
+-- the bytes of a line without blanks at its end, and of its line break: an `=` at the end is a soft break, which drops both
 abbrev pub text_of_line : List ℕ → List ℕ → List ℕ
 text_of_line line ending = if ends_in 61 line then unescaped (without_last line)
     else unescaped line ++ ending
 
--- what a line and its break stand for
+-- the bytes of a line and its break
 unfoldable pub line_bytes : List ℕ → List ℕ → List ℕ
 line_bytes line ending = text_of_line (without_blanks line) ending
 
--- what a line that ends in LF stands for: the break is CR LF where a CR stands before the LF
+-- the bytes of a line that ends in LF: the break is CR LF if a CR comes before the LF
 abbrev pub broken_line : List ℕ → List ℕ
 broken_line line = if ends_in 13 line then line_bytes (without_last line) (13 ∷ 10 ∷ [])
     else line_bytes line (10 ∷ [])
 
--- what lines stand for, the last of which has no break
+-- the bytes of lines, the last of which has no break
 abbrev pub lines_bytes : List (List ℕ) → List ℕ
 lines_bytes [] = []
 lines_bytes (last ∷ []) = line_bytes last []
@@ -82,6 +81,6 @@ lines_bytes (line ∷ next ∷ more) = broken_line line ++ lines_bytes (next ∷
 abbrev pub is_line_feed : ℕ → Bool
 is_line_feed byte = byte == 10
 
--- what a quoted-printable text decodes to
+-- the bytes of a quoted-printable text
 unfoldable pub quoted_bytes : List ℕ → List ℕ
 quoted_bytes text = lines_bytes (slice_split is_line_feed text)

@@ -1,4 +1,4 @@
--- Quoted-printable (RFC 2045, section 6.7) as mail writes it.
+-- Quoted-printable (RFC 2045 §6.7) as it is written.
 use Rattle.std.specs.Prelude.{ℕ, ◌+◌, ◌/◌, ◌%◌, ◌==◌, nat_le, nat_lt, Bool, true, false, not, ◌&&◌, if◌then◌else◌, List, [], ◌∷◌, ◌++◌, length}
 use Rattle.std.specs.List.{join_by, onto_first}
 
@@ -12,13 +12,13 @@ upper_digit value = if nat_lt value 10 then 48 + value else 55 + value
 abbrev pub escape_of : ℕ → List ℕ
 escape_of byte = 61 ∷ upper_digit (byte / 16) ∷ upper_digit (byte % 16) ∷ []
 
--- the byte is written as itself: printable ASCII but `=`, and no space at the end of a line
-abbrev pub stands : Bool → ℕ → Bool
-stands at_end byte = nat_le 32 byte && nat_le byte 126 && not (byte == 61) && not (at_end && (byte == 32))
+-- a byte that is written as itself: printable ASCII other than `=`, and no space at the end of a line
+abbrev pub is_literal : Bool → ℕ → Bool
+is_literal at_end byte = nat_le 32 byte && nat_le byte 126 && not (byte == 61) && not (at_end && (byte == 32))
 
 -- how a byte is written, at the end of its line or before it
 unfoldable pub unit_of : Bool → ℕ → List ℕ
-unit_of at_end byte = if stands at_end byte then byte ∷ [] else escape_of byte
+unit_of at_end byte = if is_literal at_end byte then byte ∷ [] else escape_of byte
 
 -- ---- the rows of a line
 
@@ -27,8 +27,7 @@ abbrev pub is_empty : List ℕ → Bool
 is_empty [] = true
 is_empty (byte ∷ more) = false
 
--- so many characters fit on a row that has a number of them: at most 76 are on it, and one of them is
--- the `=` of a soft break where the line goes on
+-- `size` characters fit on a row of `column`: a row has at most 76, and if the line goes on, one of them is the `=` of a soft break
 abbrev pub fits : ℕ → ℕ → Bool → Bool
 fits column size at_end = nat_le (column + size + (if at_end then 0 else 1)) 76
 
@@ -67,17 +66,17 @@ broken_lines (first ∷ second ∷ more) = if (first == 13) && (second == 10) th
 unfoldable pub quoted_text : List ℕ → List ℕ
 quoted_text bytes = join_by rows_text break (broken_lines bytes)
 
--- ---- the same by the number of characters on the row that is begun
+-- ---- the same by the number of characters on the row that is begun: `rest_of_line 0` is `rows_text`
 
--- what stands before a unit: a soft break, if it doesn't fit
+-- what comes before a unit: a soft break, if it doesn't fit
 abbrev pub soft_break : ℕ → ℕ → Bool → List ℕ
 soft_break column size at_end = if fits column size at_end then [] else 61 ∷ 13 ∷ 10 ∷ []
 
--- where a unit stands on its row
+-- the column at which a unit begins
 abbrev pub unit_column : ℕ → ℕ → Bool → ℕ
 unit_column column size at_end = if fits column size at_end then column else 0
 
--- a byte with what stands before it
+-- a byte with what comes before it
 unfoldable pub placed_unit : ℕ → Bool → ℕ → List ℕ
 placed_unit column at_end byte =
     soft_break column (length (unit_of at_end byte)) at_end ++ unit_of at_end byte
@@ -87,7 +86,7 @@ unfoldable pub column_after : ℕ → Bool → ℕ → ℕ
 column_after column at_end byte =
     unit_column column (length (unit_of at_end byte)) at_end + length (unit_of at_end byte)
 
--- how a line goes on after so many characters of a row
+-- how a line goes on after `column` characters of a row
 abbrev pub rest_of_line : ℕ → List ℕ → List ℕ
 rest_of_line column [] = []
 rest_of_line column (byte ∷ more) = placed_unit column (is_empty more) byte

@@ -10,7 +10,7 @@ use base64::engine::general_purpose::STANDARD;
 use memchr::memchr;
 use std::alloc::{AllocError as Memory, Global};
 
-// The value of each character of the alphabet, and 255 for every other.
+// The value of each character of the alphabet, and 255 for any other byte.
 static SEXTETS: [u8; 256] = [
     255, 255, 255, 255, 255, 255, 255, 255, 255, 255, 255, 255, 255, 255, 255, 255, 255, 255, 255,
     255, 255, 255, 255, 255, 255, 255, 255, 255, 255, 255, 255, 255, 255, 255, 255, 255, 255, 255,
@@ -27,7 +27,7 @@ static SEXTETS: [u8; 256] = [
     255, 255, 255, 255, 255, 255, 255, 255, 255, 255, 255, 255, 255, 255,
 ];
 
-/// The bytes of a base64 text.
+/// Decodes a base64 text.
 pub(crate) fn decode(alloc: Global, text: &[u8]) -> Result<Vec<u8>, Memory>
     ensures { IfOk result (λ bytes. bytes.items ≡ base64_bytes text.now) }
 {
@@ -38,8 +38,8 @@ pub(crate) fn decode(alloc: Global, text: &[u8]) -> Result<Vec<u8>, Memory>
     Ok(bytes)
 }
 
-/// The base64 text of `bytes` (RFC 2045 §6.8) in lines of 76 characters, of which only the last may be
-/// shorter. CR LF ends each line, also the last. No bytes give no line.
+/// Encodes bytes as base64 (RFC 2045 §6.8). Each line has 76 characters, the last may have fewer, and each ends with CR LF. No
+/// bytes give no line.
 pub fn encode_base64(alloc: Global, bytes: &[u8]) -> Result<Vec<u8>, Memory>
     ensures text { IfOk result (λ text. text.items ≡ base64_text bytes.now) }
     ensures decodes { IfOk result (λ text. base64_bytes text.items ≡ bytes.now) }
@@ -55,15 +55,15 @@ pub fn encode_base64(alloc: Global, bytes: &[u8]) -> Result<Vec<u8>, Memory>
     Ok(text)
 }
 
-// So many lines are encoded together: a call of the engine costs as much as half a line.
+// How many lines are encoded together: a call of the engine costs as much as half a line.
 const BLOCK: usize = 16;
 
-// Adds so many lines of the base64 text of `bytes`, from the one with this number on.
+// Adds `count` lines of the base64 text of `bytes`, from line `first` on.
 fn push_lines(bytes: &[u8], first: usize, count: usize, text: &mut Vec<u8>) -> Result<(), Memory>
     requires lines { first + count ≤ (length bytes.now + 56) / 57 }
     requires any { 0 < count }
     requires few { count ≤ 16 }
-    ensures ok { OnOk result (text.new.items ≡ text.old.items ++ base64_lines bytes.now first count) }
+    ensures added { OnOk result (text.new.items ≡ text.old.items ++ base64_lines bytes.now first count) }
 {
     let end = (57 * (first + count)).min(bytes.len());
     let mut characters = [0u8; 76 * BLOCK];
@@ -78,14 +78,14 @@ fn push_lines(bytes: &[u8], first: usize, count: usize, text: &mut Vec<u8>) -> R
 }
 
 fn push_line(characters: &[u8], text: &mut Vec<u8>) -> Result<(), Memory>
-    ensures ok { OnOk result (text.new.items ≡ text.old.items ++ (characters.now ++ 13 ∷ 10 ∷ [])) }
+    ensures added { OnOk result (text.new.items ≡ text.old.items ++ (characters.now ++ 13 ∷ 10 ∷ [])) }
 {
     text.extend_from_slice(characters)?;
     text.extend_from_slice(b"\r\n")?;
     Ok(())
 }
 
-// The text up to its first `=`.
+// Returns the text up to its first `=`.
 fn before_equals(text: &[u8]) -> &[u8]
     ensures { result.now ≡ before_first is_equals text.now }
 {
@@ -95,7 +95,7 @@ fn before_equals(text: &[u8]) -> &[u8]
     }
 }
 
-// Writes the bytes of the sextets of `text`, and returns how many they are.
+// Writes the bytes of the sextets of `text`, and returns how many there are.
 fn read_sextets(text: &[u8], bytes: &mut [u8]) -> usize
     requires room { 3 * length text.now < 4 * length bytes.old }
     ensures { take result bytes.new ≡ bytes_of (sextets text.now) }
@@ -132,7 +132,7 @@ fn read_last(text: &[u8], bytes: &mut [u8], start: usize) -> usize
     start + 2
 }
 
-// The next four sextets and what comes after them, where the text has so many.
+// Returns the next four sextets and the text after them, if there are four.
 fn next_four(text: &[u8]) -> Option<((u8, u8, u8, u8), &[u8])>
     ensures { MatchOption result (length (sextets text.now) < 4) (λ next. HasFour text.now next.0 next.1.now) }
 {
@@ -149,7 +149,7 @@ fn next_four(text: &[u8]) -> Option<((u8, u8, u8, u8), &[u8])>
     Some(((a, b, c, d), after))
 }
 
-// The sextet of the next character of the alphabet, and what comes after it.
+// Returns the sextet of the next character of the alphabet, and the text after it.
 fn next_sextet(text: &[u8]) -> Option<(u8, &[u8])>
     ensures { MatchOption result (sextets text.now ≡ [])
         (λ next. (sextets text.now ≡ next.0 ∷ sextets next.1.now) × (next.0 < 64)
@@ -164,7 +164,7 @@ fn next_sextet(text: &[u8]) -> Option<(u8, &[u8])>
     None
 }
 
-// The sextet of a character, or 255.
+// Returns the sextet of a character, or 255.
 fn sextet(character: u8) -> u8
     ensures value { result < 64 → sextet_of character ≡ Some result }
     ensures other { 64 ≤ result → sextet_of character ≡ None }

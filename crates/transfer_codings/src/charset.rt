@@ -24,7 +24,7 @@ fn is_named(name: &[u8], word: &[u8]) -> bool
     name.eq_ignore_ascii_case(word)
 }
 
-/// The charset of a name, as in `charset=`. Case does not count.
+/// Returns the charset of a name, as in `charset=`, in either case.
 pub fn charset_of(name: &[u8]) -> Option<Charset>
     ensures { result ≡ charset_named name.now }
 {
@@ -40,7 +40,7 @@ pub fn charset_of(name: &[u8]) -> Option<Charset>
     None
 }
 
-/// The text of `bytes` in `charset`. What is no text there is read as U+FFFD, so only memory can fail.
+/// Returns the text of `bytes` in `charset`. Bytes that are no character are read as U+FFFD, so only memory can fail.
 pub fn text_of(alloc: Global, charset: Charset, bytes: &[u8]) -> Result<String, Memory>
     ensures { IfOk result (λ text. string_bytes text ≡ text_in charset bytes.now) }
 {

@@ -17,8 +17,8 @@ pub enum Coding {
     Quoted,
 }
 
-/// The bytes that `bytes` stand for. Every input has a reading (RFC 2045 §6.7 and §6.8 leave it to the
-/// reader what malformed text means), so only memory can fail.
+/// Decodes bytes. Every input has a reading, since RFC 2045 §6.7 and §6.8 leave malformed text to the reader, so only memory can
+/// fail.
 pub fn decode(alloc: Global, coding: Coding, bytes: &[u8]) -> Result<Vec<u8>, Memory>
     ensures { IfOk result (λ read. read.items ≡ decoded coding bytes.now) }
 {

@@ -1,10 +1,10 @@
-//! The codings in which mail carries bytes (RFC 2045 section 6), and the charsets in which the bytes
+//! The codings in which mail carries bytes (RFC 2045 §6), and the charsets in which the bytes
 //! are text.
 #![tactic(auto)]
 
 mod base64_text;
-pub mod charset;
-pub mod coding;
+mod charset;
+mod coding;
 mod quoted_rows;
 mod quoted_text;
 

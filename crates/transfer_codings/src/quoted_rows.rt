@@ -5,16 +5,16 @@ ghost use Rattle.std.specs.List.{All};
 ghost use Rattle.std.specs.Str.{IsAscii};
 ghost use Rattle.std.specs.Str.Lines.{lines};
 ghost use Rattle.transfer_codings.specs.Quoted.{quoted_bytes};
-ghost use Rattle.transfer_codings.specs.QuotedRows.{broken_lines, column_after, escape_of, placed_unit, quoted_text, rest_of_line, soft_break, stands, unit_column, upper_digit};
+ghost use Rattle.transfer_codings.specs.QuotedRows.{broken_lines, column_after, escape_of, placed_unit, quoted_text, rows_text, soft_break, is_literal, unit_column, upper_digit};
 
 use std::alloc::{AllocError as Memory, Global};
 
 // The most characters on a row, without its CR LF.
 const WIDTH: usize = 76;
 
-/// The quoted-printable text of `bytes` (RFC 2045 §6.7). Its lines end where those of `bytes` do, at
-/// CR LF, and at a soft break where one would have more than 76 characters; other bytes than printable
-/// ASCII are escaped, and so is a space at the end of a line, so that `bytes` may be anything.
+/// Encodes bytes as quoted-printable (RFC 2045 §6.7). A line ends at each CR LF of `bytes`, and at a soft break before it has more
+/// than 76 characters. Bytes other than printable ASCII are escaped, and so are `=` and a space at the end of a line. The text
+/// decodes to `bytes`, whatever they are.
 pub fn encode_quoted(alloc: Global, bytes: &[u8]) -> Result<Vec<u8>, Memory>
     ensures text { IfOk result (λ text. text.items ≡ quoted_text bytes.now) }
     ensures decodes { IfOk result (λ text. quoted_bytes text.items ≡ bytes.now) }
@@ -32,7 +32,7 @@ pub fn encode_quoted(alloc: Global, bytes: &[u8]) -> Result<Vec<u8>, Memory>
     Ok(text)
 }
 
-// The first line, without its CR LF, and what comes after it.
+// Returns the first line without its CR LF, and the text after it.
 fn split_break(text: &[u8]) -> Option<(&[u8], &[u8])>
     ensures { MatchOption result (broken_lines text.now ≡ text.now ∷ [])
         (λ cut. (broken_lines text.now ≡ cut.0.now ∷ broken_lines cut.1.now)
@@ -46,9 +46,9 @@ fn split_break(text: &[u8]) -> Option<(&[u8], &[u8])>
     None
 }
 
-// Adds a line, in rows.
+// Adds a line, as rows of at most 76 characters.
 fn push_line(line: &[u8], text: &mut Vec<u8>) -> Result<(), Memory>
-    ensures ok { OnOk result (text.new.items ≡ text.old.items ++ rest_of_line 0 line.now) }
+    ensures { OnOk result (text.new.items ≡ text.old.items ++ rows_text line.now) }
 {
     let mut column = 0;
     let mut rest = line;
@@ -59,15 +59,15 @@ fn push_line(line: &[u8], text: &mut Vec<u8>) -> Result<(), Memory>
     Ok(())
 }
 
-// Adds a byte of a line, with a soft break before it where it doesn't fit on a row of `column`
-// characters, and returns how many the row has then.
+// Adds a byte of a line, with a soft break before it if it doesn't fit on a row of `column` characters. Returns how many the row
+// has then.
 fn push_byte(byte: u8, at_end: bool, column: usize, text: &mut Vec<u8>) -> Result<usize, Memory>
     requires { column ≤ WIDTH }
     ensures ok { OnOk result (text.new.items ≡ text.old.items ++ placed_unit column at_end byte) }
     ensures column { IfOk result (λ next. next ≡ column_after column at_end byte) }
     ensures bound { IfOk result (λ next. next ≤ WIDTH) }
 {
-    if stands(byte, at_end) {
+    if is_literal(byte, at_end) {
         let start = break_row(column, 1, at_end, text)?;
         text.push(byte)?;
         return Ok(start + 1);
@@ -77,7 +77,7 @@ fn push_byte(byte: u8, at_end: bool, column: usize, text: &mut Vec<u8>) -> Resul
     Ok(start + 3)
 }
 
-// Adds a soft break, unless `size` characters fit on the row, and returns where they stand on theirs.
+// Adds a soft break, unless `size` characters fit on the row. Returns the column at which they begin.
 fn break_row(column: usize, size: usize, at_end: bool, text: &mut Vec<u8>) -> Result<usize, Memory>
     requires in_row { column ≤ WIDTH }
     requires small { size ≤ 3 }
@@ -93,9 +93,9 @@ fn break_row(column: usize, size: usize, at_end: bool, text: &mut Vec<u8>) -> Re
     Ok(0)
 }
 
-// The byte is written as itself.
-fn stands(byte: u8, at_end: bool) -> bool
-    ensures { result ≡ stands at_end byte }
+// Returns whether a byte is written as itself.
+fn is_literal(byte: u8, at_end: bool) -> bool
+    ensures { result ≡ is_literal at_end byte }
 {
     byte >= b' ' && byte <= b'~' && byte != b'=' && !(at_end && byte == b' ')
 }

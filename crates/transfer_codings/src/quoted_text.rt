@@ -7,7 +7,7 @@ ghost use Rattle.transfer_codings.specs.Quoted.{broken_line, ends_in, escaped_by
 use memchr::memchr;
 use std::alloc::{AllocError as Memory, Global};
 
-/// The bytes of a quoted-printable text.
+/// Decodes a quoted-printable text.
 pub(crate) fn decode(alloc: Global, text: &[u8]) -> Result<Vec<u8>, Memory>
     ensures { IfOk result (λ bytes. bytes.items ≡ quoted_bytes text.now) }
 {
@@ -17,7 +17,7 @@ pub(crate) fn decode(alloc: Global, text: &[u8]) -> Result<Vec<u8>, Memory>
     Ok(bytes)
 }
 
-// Writes what the lines of `text` stand for, and returns how many bytes that is.
+// Writes the bytes of the lines of `text`, and returns how many there are.
 fn read_lines(text: &[u8], bytes: &mut [u8]) -> usize
     requires { length text.now ≤ length bytes.old }
     ensures { take result bytes.new ≡ quoted_bytes text.now }
@@ -31,7 +31,7 @@ fn read_lines(text: &[u8], bytes: &mut [u8]) -> usize
     read_line(rest, b"", bytes, size)
 }
 
-// The first line, without its LF, and what comes after it.
+// Returns the first line without its LF, and the text after it.
 fn split_line(text: &[u8]) -> Option<(&[u8], &[u8])>
     ensures { MatchOption result (slice_split is_line_feed text.now ≡ text.now ∷ [])
         (λ cut. (slice_split is_line_feed text.now ≡ cut.0.now ∷ slice_split is_line_feed cut.1.now)
@@ -44,8 +44,8 @@ fn split_line(text: &[u8]) -> Option<(&[u8], &[u8])>
     Some((&text[..end], &text[end + 1..]))
 }
 
-// Where `byte` first stands, or the end. It tries a few bytes by hand, since lines and the text
-// between escapes may be short.
+// Returns the place of the first such byte, or the length. It tries a few bytes by hand, since lines and the text between escapes
+// may be short.
 fn find(byte: u8, text: &[u8]) -> usize
     ensures place { result ≡ position_or_len (λ x. x == byte) text.now }
     ensures bound { result ≤ length text.now }
@@ -62,7 +62,7 @@ fn find(byte: u8, text: &[u8]) -> usize
     }
 }
 
-// Writes what a line that ends in LF stands for from `start` on, and returns where it ends.
+// Writes the bytes of a line that ends in LF from `start` on, and returns where they end.
 fn read_broken_line(line: &[u8], bytes: &mut [u8], start: usize) -> usize
     requires { start + length line.now + 1 ≤ length bytes.old }
     ensures written { take result bytes.new ≡ take start bytes.old ++ broken_line line.now }
@@ -74,7 +74,7 @@ fn read_broken_line(line: &[u8], bytes: &mut [u8], start: usize) -> usize
     }
 }
 
-// Writes what a line and its break stand for from `start` on, and returns where it ends.
+// Writes the bytes of a line and its break from `start` on, and returns where they end.
 fn read_line(line: &[u8], ending: &[u8], bytes: &mut [u8], start: usize) -> usize
     requires { start + length line.now + length ending.now ≤ length bytes.old }
     ensures written { take result bytes.new ≡ take start bytes.old ++ line_bytes line.now ending.now }
@@ -90,7 +90,7 @@ fn read_line(line: &[u8], ending: &[u8], bytes: &mut [u8], start: usize) -> usiz
     }
 }
 
-// A line without its last byte, where that is `byte`.
+// Returns a line without its last byte, if that is `byte`.
 fn strip_last(line: &[u8], byte: u8) -> Option<&[u8]>
     ensures { MatchOption result (ends_in byte line.now ≡ false)
         (λ front. (ends_in byte line.now ≡ true) × (front.now ≡ without_last line.now)
@@ -144,7 +144,7 @@ fn unescape(text: &[u8], bytes: &mut [u8], start: usize) -> usize
     size
 }
 
-// Writes a piece as it stands from `start` on, and returns where it ends.
+// Copies a piece from `start` on, and returns where it ends.
 fn write(piece: &[u8], bytes: &mut [u8], start: usize) -> usize
     requires { start + length piece.now ≤ length bytes.old }
     ensures written { take result bytes.new ≡ take start bytes.old ++ piece.now }
@@ -155,7 +155,7 @@ fn write(piece: &[u8], bytes: &mut [u8], start: usize) -> usize
     end
 }
 
-// The byte that an `=` and the text after it begin with, and what comes after it.
+// Returns the byte that an `=` and the text after it begin with, and the text after that byte.
 fn byte_after_equals(text: &[u8]) -> (u8, &[u8])
     ensures byte { unescaped (61 ∷ text.now) ≡ result.0 ∷ unescaped result.1.now }
     ensures bound { length result.1.now ≤ length text.now }
@@ -166,7 +166,7 @@ fn byte_after_equals(text: &[u8]) -> (u8, &[u8])
     }
 }
 
-// The byte that the first two characters write, where they are hexadecimal digits.
+// Returns the byte of the first two characters, if they are hexadecimal digits.
 fn escape(text: &[u8]) -> Option<u8>
     ensures value { result ≡ escaped_byte text.now }
     ensures room { IfSome result (λ byte. 2 ≤ length text.now) }

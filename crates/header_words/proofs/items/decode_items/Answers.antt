@@ -1,4 +1,4 @@
-use Rattle.std.proofs.Common.{length, sym, ap, ◌∙◌, ◌++◌, false}
+use Rattle.std.proofs.Common.{length, sym}
 use Rattle.std.proofs.lemmas.Bool.{eqb-true}
 use Rattle.header_words.proofs.ItemLemmas.{joined_all}
 use Rattle.header_words.proofs.items.decode_items.Goals as goal

@@ -1,4 +1,4 @@
-use Rattle.std.proofs.Common.{◌++◌, length, false, sym, ap, ◌∙◌, append_assoc}
+use Rattle.std.proofs.Common.{◌++◌, false, ap, ◌∙◌, append_assoc}
 use Rattle.header_words.proofs.ItemLemmas.{text_after, word_next, word_shorter, none_pushed}
 use Rattle.header_words.specs.EncodedWords.{word_text, without_gap}
 use Rattle.header_words.proofs.items.push_next.Goals as goal

@@ -1,14 +1,14 @@
 use Rattle.std.proofs.Common.{◌+◌, ◌∙◌, ap, arith}
 use Rattle.std.proofs.lemmas.List.{drop_all}
 use Rattle.header_words.specs.Lines.{header_lines, body_of}
-use Rattle.header_words.proofs.FirstLine.{ends}
+use Rattle.header_words.proofs.FirstLine.{empty_line_at}
 use Rattle.header_words.proofs.Scan.{scanned_on, scanned_all}
 use Rattle.header_words.proofs.reading.fields.Goals as goal
 
 pub returns-then-is_empty-clause-header : goal.returns-then-is_empty-clause-header
 returns-then-is_empty-clause-header c =
     let line = c.first_line-size.ensures in
-    let end = ends c.args.bytes.now c.loop-at.at c.first_line-size.result.1 c.first_line-size.result.0.now c.loop-at-test.true line.text line.size c.if-is_empty.ensures in
+    let end = empty_line_at c.args.bytes.now c.loop-at.at c.first_line-size.result.1 c.first_line-size.result.0.now c.loop-at-test.true line.text line.size c.if-is_empty.ensures in
     let body = c.loop-at.invariant.body in
     let rest = end.body in
     c.of.ensures ∙ scanned_all c.args.bytes.now c.loop-at.starts.items c.loop-at.at (c.loop-at.at + c.first_line-size.result.1) c.loop-at.invariant end.lines (omega arith)

@@ -6,4 +6,4 @@ use Rattle.html_references.proofs.names.longest_name.Goals as goal
 pub returns-in-len1-up : goal.returns-in-len1-up
 returns-in-len1-up c =
     let text = c.args.text.now in
-    c.found_in.ensures ∙ ap (λ (l : List Listed). found_in l text) c.names_with.ensures ∙ found_is_longest text c.in-len1-up.len_at_least
+    c.found_in.ensures ∙ ap (λ (l : List Listed). found_in l text) c.names_with_first.ensures ∙ found_is_longest text c.in-len1-up.len_at_least

@@ -13,5 +13,5 @@ returns-in_ok-push_str-clause-reads c =
 
 pub returns-in_ok-push_character-clause-reads : goal.returns-in_ok-push_character-clause-reads
 returns-in_ok-push_character-clause-reads c =
-    character_added c.args.read_as (string_bytes c.args.out.now) (string_bytes c.push_character.new.out) c.args.rest.now c.special-found.result.len c.special-found.result.character
-    c.in_ok-push_character.ensures c.special-found.ensures.reads
+    character_added c.args.read_as (string_bytes c.args.out.now) (string_bytes c.push_character.new.out) c.args.rest.now c.read_special-found.result.len c.read_special-found.result.character
+    c.in_ok-push_character.ensures c.read_special-found.ensures.reads

@@ -1,6 +1,6 @@
 use Rattle.std.proofs.Common.{◌≡◌, ℕ, List, take, drop, map, IsCharBoundary, ap, sym, subst, ◌∙◌, arith}
-use Rattle.html_tokens.specs.Cuts.{Lacks, BeginsWith}
-use Rattle.html_tokens.specs.Closings.{closing}
+use Rattle.html_tokens.specs.Cuts.{LacksByte, BeginsWithByte}
+use Rattle.html_tokens.specs.Closings.{closing_len}
 use Rattle.html_syntax.specs.States.{replace_null}
 use Rattle.html_tokens.proofs.Marks.{kept_first, kept_next, past_mark}
 use Rattle.html_tokens.proofs.CommentRuns.{body, body_marks, GoesOn}
@@ -8,19 +8,19 @@ use Rattle.html_tokens.proofs.comments.body_end.Goals as goal
 
 pub loop-at-init : goal.loop-at-init
 loop-at-init c =
-    let p = c.place_of-at.ensures in
-    kept_first body 45 (map replace_null) GoesOn body_marks c.args.rest.now c.place_of-at.result c.utf8.rest p.boundary p.lacks p.begins
+    let p = c.skip_to_byte-at.ensures in
+    kept_first body 45 (map replace_null) GoesOn body_marks c.args.rest.now c.skip_to_byte-at.result c.utf8.rest p.boundary p.lacks p.begins
 
 pub range_from-requires-in-loop-at : goal.range_from-requires-in-loop-at
 range_from-requires-in-loop-at c _ = past_mark 45 (omega arith) c.args.rest.now c.loop-at.at c.utf8.rest c.loop-at-test.true c.loop-at.invariant.1
 
 pub loop-at-preserved : goal.loop-at-preserved
 loop-at-preserved c =
-    let p = c.place_of.ensures in
+    let p = c.skip_to_byte.ensures in
     let rest_is = c.range_from-in-loop-at.ensures.value in
-    let alone : closing (drop c.loop-at.at c.args.rest.now) ≡ 0 = ap closing (sym c.range_from.ensures.value) ∙ sym c.closing_len.ensures ∙ c.if-closing_len-eq0.true in
-    kept_next body 45 (map replace_null) GoesOn body_marks _ c.args.rest.now c.loop-at.at c.place_of.result c.utf8.rest c.loop-at-test.true alone
-    (subst (λ (l : List ℕ). IsCharBoundary l c.place_of.result) rest_is p.boundary)
-    (subst (λ (l : List ℕ). Lacks 45 (take c.place_of.result l)) rest_is p.lacks)
-    (subst (λ (l : List ℕ). BeginsWith 45 (drop c.place_of.result l)) rest_is p.begins)
+    let alone : closing_len (drop c.loop-at.at c.args.rest.now) ≡ 0 = ap closing_len (sym c.range_from.ensures.value) ∙ sym c.closing_len.ensures ∙ c.if-closing_len-eq0.true in
+    kept_next body 45 (map replace_null) GoesOn body_marks _ c.args.rest.now c.loop-at.at c.skip_to_byte.result c.utf8.rest c.loop-at-test.true alone
+    (subst (λ (l : List ℕ). IsCharBoundary l c.skip_to_byte.result) rest_is p.boundary)
+    (subst (λ (l : List ℕ). LacksByte 45 (take c.skip_to_byte.result l)) rest_is p.lacks)
+    (subst (λ (l : List ℕ). BeginsWithByte 45 (drop c.skip_to_byte.result l)) rest_is p.begins)
     c.loop-at.invariant

@@ -3,5 +3,5 @@ use Rattle.html_tokens.proofs.comments.bogus_comment.Goals as goal
 
 pub returns-clause-reads : goal.returns-clause-reads
 returns-clause-reads c =
-    let e = c.ended_by.ensures in
-    bogus_ends c.args.rest.now c.ended_by.result.len c.ended_by.result.end c.utf8.rest e.len e.lacks e.ends
+    let e = c.cut_at_byte.ensures in
+    bogus_ends c.args.rest.now c.cut_at_byte.result.len c.cut_at_byte.result.end c.utf8.rest e.len e.lacks e.ends

@@ -13,5 +13,5 @@ returns c =
     let found = c.bogus_comment-found.result in
     let is = c.range_from.ensures.value in
     let e = c.bogus_comment-found.ensures in
-    comment_found rest c.args.from found.len found.end c.utf8.rest c.requires.boundary c.requires.some (subst (λ (l : List ℕ). IsCharBoundary l found.len) is e.len) (subst (λ (l : List ℕ). IsCharBoundary l found.end) is e.end) e.ordered
+    comment_found rest c.args.from found.len found.end c.utf8.rest c.requires.boundary c.requires.nonempty (subst (λ (l : List ℕ). IsCharBoundary l found.len) is e.len) (subst (λ (l : List ℕ). IsCharBoundary l found.end) is e.end) e.ordered
     (c.requires.reads ∙ subst (λ (l : List ℕ). read (Bogus []) 0 (input l) ≡ Comment (map replace_null (input (take found.len l))) ∷ read Data 0 (input (drop found.end l))) is e.reads)

@@ -1,7 +1,7 @@
 use Rattle.std.proofs.Common.{◌≡◌, ◌<◌, length, false, sym, subst}
 use Rattle.std.proofs.lemmas.Bool.{eqb-true, eqb-false}
 use Rattle.html_tokens.specs.Scanned.{opens_markup}
-use Rattle.html_tokens.specs.Stepping.{StepsTo}
+use Rattle.html_tokens.specs.Stepping.{IsStepTo}
 use Rattle.html_tokens.specs.declared.step.Step.{Step}
 use Rattle.html_tokens.specs.declared.mode.Mode.TheVariants as mode
 use Rattle.html_references.specs.declared.stretch.ReadAs.TheVariants as reads
@@ -17,4 +17,4 @@ returns-else-opens_markup c =
     let e = c.text_end.ensures in
     let alone : opens_markup rest ≡ false = sym c.if-opens_markup.ensures in
     let some : 0 < c.text_end.result = run_is_some rest c.text_end.result (eqb-false (length rest) 0 (sym c.if-is_empty.ensures)) alone e.ends in
-    subst (λ (s : Step). StepsTo rest mode.Data s) (sym c.run_step.ensures) (run_found reads.Text mode.Data rest c.text_end.result c.utf8.rest some e.boundary e.reads e.ends alone)
+    subst (λ (s : Step). IsStepTo rest mode.Data s) (sym c.run_step.ensures) (run_found reads.Text mode.Data rest c.text_end.result c.utf8.rest some e.boundary e.reads e.ends alone)

@@ -4,7 +4,7 @@ use Rattle.html_syntax.specs.States.{Tag, new_tag, state_after_start, replace_nu
 use Rattle.html_syntax.specs.States.State.{TagName, BeforeName}
 use Rattle.html_syntax.specs.Tokenizer.{read}
 use Rattle.html_references.specs.Input.{input}
-use Rattle.html_tokens.specs.Tags.{named_by, with_attributes, ended}
+use Rattle.html_tokens.specs.Tags.{extend_name, with_attributes, tokens_after_tag}
 use Rattle.html_tokens.specs.Scanned.{state_in}
 use Rattle.html_tokens.specs.declared.span.Part.TheVariants as part
 use Rattle.html_tokens.proofs.StepRuns.{tag_found, start_read}
@@ -17,10 +17,10 @@ returns-in-Some c =
     let n = c.in-Some.after in
     let inside_is : c.range_from-inside.result.now ≡ drop 1 rest = c.range_from-inside.ensures.value in
     let after_is : c.range_from.result.now ≡ drop len (drop 1 rest) = c.range_from.ensures.value ∙ ap (drop len) inside_is in
-    let tag = named_by (new_tag false) (input (take len (drop 1 rest))) in
+    let tag = extend_name (new_tag false) (input (take len (drop 1 rest))) in
     let found = c.in-Some.ensures.reads tag in
-    let named = subst (λ (l : List ℕ). (tag : Tag) → read (TagName tag) 0 (input l) ≡ read (BeforeName (named_by tag (input (take len l)))) 0 (input (drop len l))) inside_is c.name_end-name_len.ensures.reads in
-    let closes = subst (λ (l : List ℕ). read (BeforeName tag) 0 (input l) ≡ ended (with_attributes tag found.0) (input (drop n l))) after_is found.1 in
+    let named = subst (λ (l : List ℕ). (tag : Tag) → read (TagName tag) 0 (input l) ≡ read (BeforeName (extend_name tag (input (take len l)))) 0 (input (drop len l))) inside_is c.name_end-name_len.ensures.reads in
+    let closes = subst (λ (l : List ℕ). read (BeforeName tag) 0 (input l) ≡ tokens_after_tag (with_attributes tag found.0) (input (drop n l))) after_is found.1 in
     let whole : len - 0 ≡ len = omega arith in
     let name_is : c.range.result.now ≡ take len (drop 1 rest) = c.range.ensures.value ∙ ap (λ (x : ℕ). take x c.range_from-inside.result.now) whole ∙ ap (take len) inside_is in
     let mode_is : state_in c.mode_after.result ≡ state_after_start (map lower (map replace_null (input (take len (drop 1 rest))))) = c.mode_after.ensures ∙ ap (λ (l : List ℕ). state_after_start (map lower (map replace_null (input l)))) name_is in

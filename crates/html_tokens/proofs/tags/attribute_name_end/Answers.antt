@@ -1,6 +1,6 @@
 use Rattle.std.proofs.Common.{ℕ, List, drop, ap, ◌∙◌}
 use Rattle.std.specs.List.{prefix_len}
-use Rattle.html_tokens.specs.Tags.{belongs}
+use Rattle.html_tokens.specs.Tags.{in_class}
 use Rattle.html_tokens.specs.declared.tags.Class.TheVariants as class
 use Rattle.html_tokens.proofs.TagRuns.{sliced}
 use Rattle.html_tokens.proofs.TagNames.{named}
@@ -9,11 +9,11 @@ use Rattle.html_tokens.proofs.tags.attribute_name_end.Goals as goal
 pub returns-clause-boundary : goal.returns-clause-boundary
 returns-clause-boundary c =
     let bytes = c.as_bytes.result.now in
-    let is = c.front.ensures.value ∙ ap (prefix_len (belongs class.AttributeName)) (sliced 1 bytes ∙ ap (λ (l : List ℕ). drop 1 l) c.as_bytes.ensures.value) in
-    (named c.args.rest.now c.front.result c.utf8.rest c.requires is).boundary
+    let is = c.prefix_len.ensures.value ∙ ap (prefix_len (in_class class.AttributeName)) (sliced 1 bytes ∙ ap (λ (l : List ℕ). drop 1 l) c.as_bytes.ensures.value) in
+    (named c.args.rest.now c.prefix_len.result c.utf8.rest c.requires is).boundary
 
 pub returns-clause-reads : goal.returns-clause-reads
 returns-clause-reads c =
     let bytes = c.as_bytes.result.now in
-    let is = c.front.ensures.value ∙ ap (prefix_len (belongs class.AttributeName)) (sliced 1 bytes ∙ ap (λ (l : List ℕ). drop 1 l) c.as_bytes.ensures.value) in
-    (named c.args.rest.now c.front.result c.utf8.rest c.requires is).reads
+    let is = c.prefix_len.ensures.value ∙ ap (prefix_len (in_class class.AttributeName)) (sliced 1 bytes ∙ ap (λ (l : List ℕ). drop 1 l) c.as_bytes.ensures.value) in
+    (named c.args.rest.now c.prefix_len.result c.utf8.rest c.requires is).reads

@@ -1,27 +1,27 @@
 use Rattle.std.proofs.Common.{ℕ, List, drop, IsCharBoundary, subst, arith}
-use Rattle.html_tokens.specs.Tags.{belongs, BeginsOutside, EndsTag, HoldsAttribute}
+use Rattle.html_tokens.specs.Tags.{in_class, BeginsOutside, EndsTag, ReadsAttributeAt}
 use Rattle.html_tokens.specs.declared.tags.Class.TheVariants as class
 use Rattle.html_tokens.proofs.TagAttributes.{passed_first, passed_next, closes_here, never_closes, closing_boundary}
 use Rattle.html_tokens.proofs.tags.tag_end.Goals as goal
 
 pub loop-at-init : goal.loop-at-init
-loop-at-init c = passed_first c.args.rest.now c.gap-at.result c.gap-at.ensures.boundary c.gap-at.ensures.next c.gap-at.ensures.reads
+loop-at-init c = passed_first c.args.rest.now c.gap_len-at.result c.gap_len-at.ensures.boundary c.gap_len-at.ensures.next c.gap_len-at.ensures.reads
 
 pub loop-at-preserved : goal.loop-at-preserved
 loop-at-preserved c =
     let rest_is = c.range_from-in-loop-at.ensures.value in
     let a = c.attribute-at in
     passed_next c.args.rest.now c.loop-at.at a.result (subst (λ (l : List ℕ). IsCharBoundary l a.result.end) rest_is a.ensures.end)
-    (subst (λ (l : List ℕ). BeginsOutside (belongs class.Gap) (drop a.result.end l)) rest_is a.ensures.next) (subst (λ (l : List ℕ). HoldsAttribute l a.result) rest_is a.ensures.reads) c.loop-at.invariant
+    (subst (λ (l : List ℕ). BeginsOutside (in_class class.Gap) (drop a.result.end l)) rest_is a.ensures.next) (subst (λ (l : List ℕ). ReadsAttributeAt l a.result) rest_is a.ensures.reads) c.loop-at.invariant
 
 pub returns-then-at-rest-clause-boundary : goal.returns-then-at-rest-clause-boundary
 returns-then-at-rest-clause-boundary c =
-    let ends : EndsTag (drop c.loop-at.at c.args.rest.now) = subst EndsTag c.range_from.ensures.value (c.begins_attribute.ensures.over c.loop-at-test.false) in
+    let ends : EndsTag (drop c.loop-at.at c.args.rest.now) = subst EndsTag c.range_from.ensures.value (c.begins_attribute.ensures.ends c.loop-at-test.false) in
     closing_boundary c.args.rest.now c.loop-at.at c.utf8.rest c.loop-at.invariant.boundary ends c.if-at-rest.true
 
 pub returns-then-at-rest-clause-reads : goal.returns-then-at-rest-clause-reads
 returns-then-at-rest-clause-reads c =
-    let ends : EndsTag (drop c.loop-at.at c.args.rest.now) = subst EndsTag c.range_from.ensures.value (c.begins_attribute.ensures.over c.loop-at-test.false) in
+    let ends : EndsTag (drop c.loop-at.at c.args.rest.now) = subst EndsTag c.range_from.ensures.value (c.begins_attribute.ensures.ends c.loop-at-test.false) in
     closes_here c.args.rest.now c.loop-at.at c.loop-at.invariant ends c.if-at-rest.true
 
 pub returns-else-at-rest-clause-reads : goal.returns-else-at-rest-clause-reads

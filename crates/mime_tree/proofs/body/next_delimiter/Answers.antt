@@ -1,4 +1,4 @@
-use Rattle.std.proofs.Common.{◌≡◌, ◌+◌, sym, ap, ◌∙◌, arith}
+use Rattle.std.proofs.Common.{sym, ◌∙◌, arith}
 use Rattle.mime_tree.proofs.BodyLemmas.{turn, passed, met}
 use Rattle.mime_tree.proofs.body.next_delimiter.Goals as goal
 

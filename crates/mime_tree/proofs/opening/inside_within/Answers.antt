@@ -10,7 +10,7 @@ returns-then-most-eq0-clause-many c = omega (arith, ap length (inside_message c.
 
 pub returns-then-not-is_multipart-clause-all : goal.returns-then-not-is_multipart-clause-all
 returns-then-not-is_multipart-clause-all c =
-    c.in_ok-push.ensures.items ∙ ap (λ xs. xs ++ c.in_ok-one.one ∷ []) c.new-nodes.ensures.items ∙ ap (λ n. n ∷ []) c.in_ok-one.ensures.is
+    c.in_ok-push.ensures.items ∙ ap (λ xs. xs ++ c.in_ok-one.one ∷ []) c.new-nodes.ensures.items ∙ ap (λ n. n ∷ []) c.in_ok-one.ensures.equals
     ∙ sym (inside_message c.args.bytes.now c.args.node.now c.if-not-is_multipart.ensures)
 
 pub returns-in_default-clause-many : goal.returns-in_default-clause-many
@@ -27,9 +27,9 @@ returns-clause-all c =
     let node = c.args.node.now in
     let text = slice_range bytes node.body node.to in
     let all = rw c.in-Some.is at c.in_ok-ranges.ensures.all in
-    c.in_ok-nodes.ensures.is ∙ ap (children_from bytes node 1) (c.deref.ensures.value ∙ all ∙ ap (λ b. places b text) c.boundary.ensures) ∙ sym (inside_multipart bytes node c.if-not-is_multipart.ensures)
+    c.in_ok-nodes.ensures.equals ∙ ap (children_from bytes node 1) (c.deref.ensures.value ∙ all ∙ ap (λ b. places b text) c.boundary.ensures) ∙ sym (inside_multipart bytes node c.if-not-is_multipart.ensures)
 
 pub returns-clause-few : goal.returns-clause-few
 returns-clause-few c =
     let few = rw c.in-Some.is at c.in_ok-ranges.ensures.few in
-    omega (arith, ap length c.in_ok-nodes.ensures.is, children_length c.args.bytes.now c.args.node.now 1 c.deref.result.now, ap length c.deref.ensures.value, few)
+    omega (arith, ap length c.in_ok-nodes.ensures.equals, children_length c.args.bytes.now c.args.node.now 1 c.deref.result.now, ap length c.deref.ensures.value, few)

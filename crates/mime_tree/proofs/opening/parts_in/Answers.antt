@@ -7,7 +7,7 @@ use Rattle.mime_tree.proofs.opening.parts_in.Goals.{else-loop-step-test, then-lo
 
 pub loop-step-init : goal.loop-step-init
 loop-step-init c = record {
-  all = start_stands c.args.bytes.now c.new-found.result.items c.new-waiting.result.items c.push.new.self.items c.args.message c.new-found.ensures.items c.new-waiting.ensures.items c.in_ok-push.ensures.items c.requires.is;
+  all = start_stands c.args.bytes.now c.new-found.result.items c.new-waiting.result.items c.push.new.self.items c.args.message c.new-found.ensures.items c.new-waiting.ensures.items c.in_ok-push.ensures.items c.requires.equals;
   sound = first_place c.args.bytes.now c.args.message c.new-waiting.result.items c.push.new.self.items c.new-waiting.ensures.items c.in_ok-push.ensures.items c.requires.sound;
   placed = none_placed c.args.bytes.now c.new-found.result.items c.new-found.ensures.items;
 }
@@ -24,8 +24,8 @@ loop-step-preserved c = record {
   placed = c.in_ok-settle_next.ensures.placed;
 }
 
-pub returns-clause-is : goal.returns-clause-is
-returns-clause-is c =
+pub returns-clause-equals : goal.returns-clause-equals
+returns-clause-equals c =
     elim c.loop-step-test.branch [
       | else-loop-step-test w ↦ end_stands c.args.bytes.now c.loop-step.step c.loop-step.found.items _ (reverse c.loop-step.waiting.items) w.loop-step-test.false c.loop-step.invariant.all
       | then-loop-step-test+in_default w ↦

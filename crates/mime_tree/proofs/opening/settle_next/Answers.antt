@@ -9,7 +9,7 @@ use Rattle.mime_tree.proofs.opening.settle_next.Goals.{then-not-is_hidden+in_ok-
 pub returns-in_default : goal.returns-in_default
 returns-in_default c =
     let none = rw c.in_default.is at c.in_ok-children.ensures.none in
-    let settled = leaf_settles c.args.bytes.now c.args.found.now.items c.push.new.self.items c.args.next c.args.waiting.now.items _ c.is_raw-raw.result c.part.result (omega (arith, c.len.ensures, c.len-2.ensures)) none c.is_raw-raw.ensures c.part.ensures.is c.in_ok-push.ensures.items in
+    let settled = leaf_settles c.args.bytes.now c.args.found.now.items c.push.new.self.items c.args.next c.args.waiting.now.items _ c.is_raw-raw.result c.part.result (omega (arith, c.len.ensures, c.len-2.ensures)) none c.is_raw-raw.ensures c.part.ensures.equals c.in_ok-push.ensures.items in
     record {
       parts = sym (ap (λ (t : Opened). t.parts) settled);
       waiting = sym (ap (λ (t : Opened). t.waiting) settled);
@@ -20,13 +20,13 @@ returns-in_default c =
 pub returns : goal.returns
 returns c =
     let next = c.args.next in
-    let some = rw c.in-Some.is at c.in_ok-children.ensures.some in
+    let some = rw c.in-Some.is at c.in_ok-children.ensures.equals in
     let opened = rw c.in-Some.is at c.in_ok-children.ensures.opened in
     let sound = rw c.in-Some.is at c.in_ok-children.ensures.all in
     let items : c.if-not-is_hidden.found.items ≡ c.args.found.now.items ++ own c.args.bytes.now next =
     elim c.if-not-is_hidden.branch [
       | then-not-is_hidden+in_ok-push-2 w ↦
-          ap (λ v. v.items) w.found-is ∙ w.in_ok-push-2.ensures.items ∙ ap (λ p. c.args.found.now.items ++ p ∷ []) w.part-then-not-is_hidden.ensures.is
+          ap (λ v. v.items) w.found-is ∙ w.in_ok-push-2.ensures.items ∙ ap (λ p. c.args.found.now.items ++ p ∷ []) w.part-then-not-is_hidden.ensures.equals
           ∙ ap (λ ps. c.args.found.now.items ++ ps) (sym (own_part c.args.bytes.now next w.if-not-is_hidden.ensures))
       | else-not-is_hidden w ↦
           ap (λ v. v.items) w.found-is ∙ sym (append-nil c.args.found.now.items)

@@ -19,7 +19,7 @@ loop-block-preserved c =
     let before : min (16 * block) count ≡ 16 * block = omega arith in
     let place : 16 * block ≡ 0 + 16 * block = omega arith in
     let after : 16 * block + c.min.result ≡ min (16 * (block + 1)) count = omega arith in
-    c.in_ok-push_lines.ensures.ok
+    c.in_ok-push_lines.ensures.added
     ∙ ap (λ xs. xs ++ base64_lines bytes (16 * block) c.min.result) (c.loop-block.invariant ∙ ap (base64_lines bytes 0) before)
     ∙ ap (λ n. base64_lines bytes 0 (16 * block) ++ base64_lines bytes n c.min.result) place
     ∙ sym (base64_lines-join bytes 0 (16 * block) c.min.result)

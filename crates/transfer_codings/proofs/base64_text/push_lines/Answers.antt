@@ -23,7 +23,7 @@ loop-number-preserved c =
     let written : List ℕ = base64_line (line_piece bytes (first + number)) in
     let line = block-written bytes c.encode_slice.new.output _ first c.args.count number c.min-end.result c.min.result c.in-Ok.size
     c.requires.lines (omega arith) c.min-end.ensures c.in-Ok.ensures.written (size ∙ sym (length-encoding piece)) c.min.ensures in
-    c.in_ok-push_line.ensures.ok
+    c.in_ok-push_line.ensures.added
     ∙ ap (λ xs. c.loop-number.text.items ++ xs) line
     ∙ ap (λ xs. xs ++ written) c.loop-number.invariant
     ∙ append_assoc before (base64_lines bytes first number) written

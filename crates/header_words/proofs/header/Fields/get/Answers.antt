@@ -27,7 +27,7 @@ between-requires c =
     let below = rises.below in
     let within = rises.within in
     let end = c.self.invariant.1 in
-    record { rise = omega arith; within = omega arith }
+    record { rising = omega arith; within = omega arith }
 
 pub returns : goal.returns
 returns c =

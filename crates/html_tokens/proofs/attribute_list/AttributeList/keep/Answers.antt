@@ -2,7 +2,7 @@ use Rattle.std.proofs.Common.{◌≡◌, ◌++◌, ◌∷◌, [], ◌-◌, ℕ, 
 use Rattle.std.proofs.lemmas.List.{map-append}
 use Rattle.html_syntax.specs.Token.{Attribute, attribute_of}
 use Rattle.html_tokens.specs.Kept.{HoldsNames}
-use Rattle.html_tokens.specs.Tags.{name_read, value_read, kept_among, attribute_at}
+use Rattle.html_tokens.specs.Tags.{read_name, read_value, add_attribute, attribute_at}
 use Rattle.html_tokens.proofs.HeldNames.{held_new, held_more, held_again, kept_one, kept_none, attribute_is}
 use Rattle.html_tokens.proofs.attribute_list.AttributeList.keep.Goals.{then-is_new+in_ok-value+in_ok-push, else-is_new}
 use Rattle.html_tokens.proofs.attribute_list.AttributeList.keep.Goals as goal
@@ -30,12 +30,12 @@ returns c =
     let place = c.args.place in
     let a = attribute_at rest place in
     let whole : place.name - 0 ≡ place.name = omega arith in
-    let named : chars (string_bytes name) ≡ a.name = c.in_ok-name.ensures ∙ ap name_read (c.range.ensures.value ∙ ap (λ (n : ℕ). take n rest) whole) in
+    let named : chars (string_bytes name) ≡ a.name = c.in_ok-name.ensures ∙ ap read_name (c.range.ensures.value ∙ ap (λ (n : ℕ). take n rest) whole) in
     let told = held_new c.self.inside.names pairs c.as_str.result.now c.in_ok-is_new.is_new c.as_str.utf8 c.self.invariant c.in_ok-is_new.ensures.is_new in
     let key : chars c.as_str.result.now ≡ a.name = ap chars c.as_str.ensures.value ∙ named in
     (elim c.if-is_new.branch [
       | then-is_new+in_ok-value+in_ok-push w ↦
-          let valued : chars (string_bytes w.in_ok-value.value) ≡ a.value = w.in_ok-value.ensures ∙ ap value_read w.range-then-is_new.ensures.value in
+          let valued : chars (string_bytes w.in_ok-value.value) ≡ a.value = w.in_ok-value.ensures ∙ ap read_value w.range-then-is_new.ensures.value in
           let is : attribute_of (name, w.in_ok-value.value) ≡ a = attribute_is name w.in_ok-value.value a named valued in
           ap (λ v. map attribute_of v.items) w.pairs-is
           ∙ ap (map attribute_of) w.in_ok-push.ensures.items
@@ -45,4 +45,4 @@ returns c =
       | else-is_new w ↦
           ap (λ v. map attribute_of v.items) w.pairs-is
           ∙ kept_none (map attribute_of pairs) a (chars c.as_str.result.now) c.in_ok-is_new.is_new key told w.if-is_new.false
-    ]) ∙ ap (λ (l : List Attribute). kept_among l a) c.self.view_is
+    ]) ∙ ap (λ (l : List Attribute). add_attribute l a) c.self.view_is

@@ -4,8 +4,8 @@ use Rattle.std.specs.Ordering.{nat_cmp}
 use Rattle.std.specs.Cmp.Lexicographic.{slice_cmp}
 use Rattle.std.specs.String.{string_cmp}
 use Rattle.std.specs.BTreeSet.{UpdatesBy, contains_text}
-use Rattle.html_tokens.specs.NameSets.{has_number}
-use Rattle.html_tokens.specs.PackedNames.{packed, is_short}
+use Rattle.html_tokens.specs.NameSets.{contains_number}
+use Rattle.html_tokens.specs.PackedNames.{pack, is_short}
 use Rattle.html_tokens.proofs.NameSets.{short_name, long_name, has_short, has_long, has_more_short, has_same_short, has_more_long}
 use Rattle.html_tokens.proofs.name_set.NameSet.insert.Goals as goal
 
@@ -19,8 +19,8 @@ returns-in_ok-is_new-clause-is_new c =
     let old = c.args.self.now in
     let name = c.args.name.now in
     let short : is_short name ≡ true = short_name name c.if-name-le-SHORT.true (λ i. omega (arith, c.type_inv.name i)) in
-    let number : c.packed-number.result ≡ packed name = c.packed-number.ensures ∙ ap packed c.as_bytes.ensures.value in
-    c.in_ok-is_new.ensures.is_new ∙ ap (λ (n : ℕ). not (has_number old n)) number ∙ ap not (sym (has_short old name short))
+    let number : c.pack-number.result ≡ pack name = c.pack-number.ensures ∙ ap pack c.as_bytes.ensures.value in
+    c.in_ok-is_new.ensures.is_new ∙ ap (λ (n : ℕ). not (contains_number old n)) number ∙ ap not (sym (has_short old name short))
 
 pub returns-in_ok-is_new-clause-names : goal.returns-in_ok-is_new-clause-names
 returns-in_ok-is_new-clause-names c =
@@ -28,9 +28,9 @@ returns-in_ok-is_new-clause-names c =
     let new = c.insert_number.new.self in
     let name = c.args.name.now in
     let short : is_short name ≡ true = short_name name c.if-name-le-SHORT.true (λ i. omega (arith, c.type_inv.name i)) in
-    let number : c.packed-number.result ≡ packed name = c.packed-number.ensures ∙ ap packed c.as_bytes.ensures.value in
+    let number : c.pack-number.result ≡ pack name = c.pack-number.ensures ∙ ap pack c.as_bytes.ensures.value in
     has_more_short old new name short c.in_ok-is_new.ensures.others
-    (subst (λ (k : ℕ). (n : ℕ) → has_number new n ≡ (k == n || has_number old n)) number c.in_ok-is_new.ensures.numbers)
+    (subst (λ (k : ℕ). (n : ℕ) → contains_number new n ≡ (k == n || contains_number old n)) number c.in_ok-is_new.ensures.numbers)
 
 pub returns-in_ok-is_new-2-clause-is_new : goal.returns-in_ok-is_new-2-clause-is_new
 returns-in_ok-is_new-2-clause-is_new c =
