@@ -1,10 +1,10 @@
 #!/usr/bin/env python3
-"""Times of flowed_text on 2.6 and 26 MB of clean and of hostile text.
+"""Measures flowed_text on 2.6 and 26 MB of clean and of hostile text.
 
-Build the program first, by `tools/build bench`. Then run this file, from anywhere, with the number of
-times that each is measured (3 by default). A row has the least of those times for each size, in nanoseconds for each byte
-of input, and the memory that the program holds for each byte of the larger input, of which the input itself is one. Where
-the larger input takes more than twice the time for each byte, the row says so, and the exit status is 1.
+Build the program first, by `tools/build bench`. Then run this file, from anywhere, with the number of runs of each measurement (3 by
+default). A row has the least time of those runs for each size, in nanoseconds per byte of input, and the memory of the program per byte
+of the larger input, the input itself included. If the larger input takes more than twice the time per byte, the row says so, and the exit
+status is 1. Quoted texts that would be written in more than 64 MiB are refused, so these are measured on 60 and 600 kB.
 """
 import os
 import subprocess
@@ -12,6 +12,8 @@ import sys
 import tempfile
 
 LARGE = 26_000_000
+# Written at a depth of 80, a text of short words is up to 84 times as long, and at most 64 MiB are written.
+LARGE_QUOTED = 600_000
 HERE = os.path.dirname(os.path.abspath(__file__))
 PROGRAM = os.path.join(HERE, "..", "bin", "bench")
 
@@ -41,13 +43,18 @@ WRITE = {
     "From": b"From ",
     "accents": "\u00e9\u00e9\u00e9 ".encode(),
 }
-# write-flowed-quoted writes at a depth of 80, so that every word stands on a line of its own
+# write-flowed-quoted writes at a depth of 80, so each word is on a line of its own.
 QUOTED = {shape: WRITE[shape] for shape in ("clean", "spaces", "one word")}
-WORKS = {"read-flowed": READ, "read-flowed-del-sp": READ, "write-flowed": WRITE, "write-flowed-quoted": QUOTED}
+WORKS = {
+    "read-flowed": (READ, LARGE),
+    "read-flowed-del-sp": (READ, LARGE),
+    "write-flowed": (WRITE, LARGE),
+    "write-flowed-quoted": (QUOTED, LARGE_QUOTED),
+}
 
 
 def seconds(work, path, times):
-    """The least seconds of a call, and the most bytes that the program held."""
+    """Returns the least seconds of a call, and the peak memory of the program in bytes."""
     with open(path, "rb") as source:
         program = subprocess.Popen([PROGRAM, work, str(times)], stdin=source, stdout=subprocess.DEVNULL, stderr=subprocess.PIPE)
         lines = program.stderr.read().splitlines()
@@ -69,14 +76,14 @@ def main():
     times = int(sys.argv[1]) if len(sys.argv) > 1 else 3
     failed = False
     with tempfile.TemporaryDirectory() as folder:
-        for work, shapes in WORKS.items():
+        for work, (shapes, size) in WORKS.items():
             print(work)
             for shape, piece in shapes.items():
-                small, _ = measure(work, piece, LARGE // 10, folder, times)
-                large, peak = measure(work, piece, LARGE, folder, times)
+                small, _ = measure(work, piece, size // 10, folder, times)
+                large, peak = measure(work, piece, size, folder, times)
                 steep = large > 20 * small and large > 0.05
                 failed = failed or steep
-                figures = f"{small / LARGE * 1e10:7.2f} {large / LARGE * 1e9:7.2f}  peak {peak / LARGE:6.1f}"
+                figures = f"{small / size * 1e10:7.2f} {large / size * 1e9:7.2f}  peak {peak / size:6.1f}"
                 print(f"  {shape:28} {figures}{'  not linear' if steep else ''}", flush=True)
     return 1 if failed else 0
 

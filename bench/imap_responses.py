@@ -1,10 +1,10 @@
 #!/usr/bin/env python3
-"""Times imap_responses on a server's bytes, beside Python's imaplib reading the same bytes from memory in the same run.
+"""Measures imap_responses on the bytes of a server, beside Python's imaplib on the same bytes in memory.
 
-Build the program first, by `tools/build bench`. Then run this file, from anywhere, with the number of times that each
-is measured (5 by default). Each figure is the least of those times in milliseconds, of the reading alone. `bench` reads each
-response with all its items; imaplib splits lines and literals, and leaves the items as text. On FETCH lines the program is to be
-5 times as fast as imaplib; a literal fed one byte at a time is to take at most 20 times the time of one fed whole.
+Build the program first, by `tools/build bench`. Then run this file, from anywhere, with the number of runs of each measurement (5 by
+default). A figure is the least time of those runs in milliseconds, of the reading alone. `bench` reads each response with all its items;
+imaplib splits lines and literals, and leaves the items as text. On FETCH lines the program should be 5 times as fast as imaplib. A
+literal that is fed one byte at a time should take at most 20 times as long as one that is fed whole.
 """
 import imaplib
 import io
@@ -20,7 +20,7 @@ WHOLE = "responses"
 
 
 def fetch_lines(count=100_000, length=300):
-    """Lines as servers answer `UID FETCH 1:* (UID FLAGS MODSEQ ENVELOPE ..)`, each of so many bytes."""
+    """Returns lines of `length` bytes, as servers answer `UID FETCH 1:* (UID FLAGS MODSEQ ENVELOPE ..)`."""
     rows = []
     for number in range(1, count + 1):
         head = f"* {number} FETCH (UID {number + 7} FLAGS (\\Seen $HasAttachment) MODSEQ ({9_000_000 + number}) RFC822.SIZE 48213"
@@ -49,17 +49,17 @@ def short_units(count=1_000_000):
 
 
 def line_feeds(size=16_000_000):
-    """One line in which no CR stands before an LF."""
+    """Returns one line with LFs that no CR precedes."""
     return b"* LIST () NIL " + b"\n" * size + b"\r\n"
 
 
 def sizes_of_nothing(count=5_000_000):
-    """One unit of empty literals."""
+    """Returns one unit of empty literals."""
     return b"* X {0}\r\n" + b"{0}\r\n" * count + b"\r\n"
 
 
 def ours(stream, piece, times):
-    """The least milliseconds, and what was read, if the stream comes in pieces of that many bytes."""
+    """Returns the least milliseconds, and what was read, if the stream arrives in pieces of that many bytes."""
     work = piece if piece == WHOLE else f"{WHOLE}-{piece}"
     done = subprocess.run([PROGRAM, work, str(times)], input=stream, capture_output=True, check=True)
     figures = [int(row.split()[0]) / 1000 for row in done.stderr.split(b"\n") if row]
@@ -67,7 +67,7 @@ def ours(stream, piece, times):
 
 
 class FromMemory(imaplib.IMAP4):
-    """imaplib over bytes in memory: what it says is answered at once."""
+    """imaplib over bytes in memory. Each command is answered at once."""
 
     def open(self, host="", port=0, timeout=None):
         self.stream = io.BytesIO(b"* OK [CAPABILITY IMAP4rev1] hi\r\n")

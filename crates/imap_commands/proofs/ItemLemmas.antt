@@ -1,4 +1,4 @@
--- The items of what was spelled.
+-- The items of written parts.
 use Rattle.std.proofs.Common.{◌≡◌, ℕ, ◌+◌, ◌/◌, ◌%◌, ◌<◌, ◌^◌, ◌==◌, ◌||◌, ◌&&◌, Bool, true, false, not, Option, Some, None, List, [], ◌∷◌, ◌++◌, length, map, codes, decimal, inl, inr, refl, sym, ap, ◌∙◌, arith, append_assoc}
 use Rattle.std.specs.List.{list_all, flat_map, concat}
 use Rattle.std.proofs.lemmas.Bool.{cases_Bool, and_parts}
@@ -135,7 +135,7 @@ concat-onto : (bytes : List ℕ) (pieces : List (List ℕ)) → concat (onto_fir
 concat-onto bytes [] = refl
 concat-onto bytes (first ∷ more) = append_assoc bytes first (concat more)
 
--- parts that are spelled as they are: words hold no string, and a literal's size fits
+-- parts whose words have no string, and whose literals fit
 abbrev pub IsSpelled : Part → Type 0
 IsSpelled (Words words) = list_all is_word words ≡ true
 IsSpelled (Text text) = length text < 2 ^ 64

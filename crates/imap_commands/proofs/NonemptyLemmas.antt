@@ -1,4 +1,4 @@
--- Pieces hold a byte at least.
+-- Pieces have at least one byte.
 use Rattle.std.proofs.Common.{ℕ, ◌<◌, List, [], ◌∷◌, ◌++◌, inl, inr, length, length-append, lit<, arith}
 use Rattle.std.proofs.lemmas.Bool.{cases_Bool}
 use Rattle.std.specs.List.{AllByRecursion}

@@ -1,4 +1,4 @@
--- What was said is read as the command that it says.
+-- The pieces of a command read as that command.
 use Rattle.std.proofs.Common.{◌≡◌, ℕ, ◌+◌, ◌/◌, ◌%◌, ◌<◌, ◌^◌, ◌==◌, Bool, true, false, cond, Option, Some, None, List, [], ◌∷◌, ◌++◌, map, not, nat_lt, codes, decimal, inl, inr, refl, ap, ◌∙◌, arith, append_assoc, subst, option_map, option_and_then, IsSome, lit<}
 use Rattle.std.specs.List.{list_all, concat}
 use Rattle.std.proofs.lemmas.Bool.{cases_Bool}
@@ -126,7 +126,7 @@ expunge_read : (uid : ℕ) → uid < 2 ^ 32 → command (items_said (command_par
 unfolding command command_parts first_of expect_words expect_end stops
 expunge_read uid fits = rw (number_32 _ uid [] fits refl) refl
 
--- the parts of a command: LIST's strings stand in its words
+-- the parts of a command; the strings of LIST are among its words
 read_parts : Command → List Part
 read_parts ListAll = Words (codes "LIST ") ∷ Text [] ∷ Words (codes " ") ∷ Text (codes "*") ∷ []
 read_parts one = command_parts one
@@ -225,7 +225,7 @@ end_once bytes is front byte back goes =
     let whole = some_items (items_of (front ++ byte ∷ back)) (subst (λ (x : List ℕ). IsSome (command_of x)) goes is) in
     ap (option_and_then tagged_command) (not_before_its_end front byte back whole.0 whole.1)
 
--- the same of what was written
+-- the same for written pieces
 pub reads : (tag : ℕ) (one : Command) (pieces : List (List ℕ)) → tag < 2 ^ 32 → FitsFieldTypes one → pieces ≡ command_pieces tag one → command_of (concat pieces) ≡ Some (tag, written_form one)
 reads tag one pieces tag_fits fits is = ap (λ (x : List (List ℕ)). command_of (concat x)) is ∙ read_back tag one tag_fits fits
 

@@ -1,4 +1,4 @@
--- Ranges that ascend, and what they hold.
+-- Ascending ranges and their UIDs.
 use Rattle.std.proofs.Common.{◌≡◌, ℕ, zero, suc, ◌+◌, ◌<◌, ◌≤◌, ◌⊎◌, inl, inr, Bool, true, false, ◌||◌, nat_le, nat_lt, List, [], ◌∷◌, ◌++◌, length, get_or, refl, sym, ap, ◌∙◌, arith, le_of_suc-le-suc, le_trans, le_refl, subst, not-suc-le-zero}
 use Rattle.std.proofs.lemmas.Bool.Decides.{nat_tests}
 use Rattle.std.proofs.lemmas.Bool.{cases_Bool}
@@ -7,7 +7,7 @@ use Rattle.std.specs.List.Sorted.{IsNonDecreasingBy, IsPartitionPoint}
 use Rattle.imap_commands.specs.declared.uid_set.UidRange.{UidRange}
 use Rattle.imap_commands.specs.UidSets.{in_range, contains_uid, AscendFrom, AreApart, BeginBy, joined}
 
--- the test of a range, with what it tells
+-- the membership test of a range
 pub in_range_tells : (uid : ℕ) (range : UidRange) → ((in_range uid range ≡ true) × (range.first ≤ uid) × (uid ≤ range.last)) ⊎ ((in_range uid range ≡ false) × ((uid < range.first) ⊎ (range.last < uid)))
 in_range_tells uid range = grind (arith, nat_tests)
 
@@ -71,7 +71,7 @@ ends_ascend least (range ∷ more) ascend zero (suc j) d le within =
 ends_ascend least (range ∷ more) ascend (suc i) (suc j) d le within =
     ends_ascend (range.last + 2) more ascend.2 i j d (le_of_suc-le-suc le) (le_of_suc-le-suc within)
 
--- of ascending ranges the last
+-- the last of ascending ranges
 last_holds : (least : ℕ) (front : List UidRange) (before : UidRange) → AscendFrom least (front ++ before ∷ []) → before.first ≤ before.last
 last_holds least [] before ascend = ascend.1
 last_holds least (range ∷ more) before ascend = last_holds (range.last + 2) more before ascend.2

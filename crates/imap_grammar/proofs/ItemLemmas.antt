@@ -1,4 +1,4 @@
--- The items of a FETCH, one after another.
+-- The items of a FETCH, item by item.
 use Rattle.std.proofs.Common.{◌≡◌, ℕ, suc, ◌+◌, ◌-◌, ◌<◌, ◌≤◌, Bool, true, false, List, [], ◌∷◌, ◌++◌, refl, sym, ap, ◌∙◌, arith, append_assoc, Option, Some, None}
 use Rattle.imap_values.specs.declared.error.ParseError.{ParseError}
 use Rattle.imap_values.specs.declared.error.ParseError.TheVariants as errors

@@ -19,7 +19,7 @@ go : response_of (codes "+ go" ++ end_of_line) ≡ Some (Continue (codes "go"))
 unfolding response_of line_of
 go = refl
 
--- the words of states are read without the case of their letters, tags with it
+-- the case of letters is ignored in the words of status responses, and kept in tags
 appended : response_of (codes "a1 ok [APPENDUID 38505 3955] done" ++ end_of_line) ≡ Some (Tagged (codes "a1") words.Ok (Some coding.Unread) (codes "done"))
 unfolding response_of line_of tagged_response_of state_word_of code_at code_name_of
 appended = refl
@@ -78,12 +78,12 @@ no_second_name : response_of (codes "* 1 FETCH (UID 7  1)" ++ end_of_line) ≡ N
 unfolding response_of line_of untagged_response_of number_response_of count_kind_of item_list_at items_at item_at item_name_of number_at positive_at
 no_second_name = refl
 
--- a message that is a literal holds what would end the list
+-- a message in a literal has bytes that would end the list
 fetched : response_of (codes "* 1 FETCH (UID 7 BODY[] {5}" ++ end_of_line ++ 97 ∷ 13 ∷ 10 ∷ 41 ∷ 98 ∷ 41 ∷ end_of_line) ≡ Some (Fetch 1 (Uid 7 ∷ Body (Some (97 ∷ 13 ∷ 10 ∷ 41 ∷ 98 ∷ [])) ∷ []))
 unfolding response_of line_of untagged_response_of number_response_of count_kind_of item_list_at items_at item_at item_name_of nstring_at string_at literal_at number_at positive_at
 fetched = refl
 
--- lists are passed over, and flags and names in brackets hold spaces
+-- lists are skipped, and names in brackets have spaces
 row : response_of (codes "* 2 FETCH (X (\"a)\" (b)) FLAGS (\\Seen $X) BODY[HEADER.FIELDS (DATE)] nil MODSEQ (5))" ++ end_of_line) ≡ Some (Fetch 2 (OtherItem ∷ Flags (codes "\\Seen" ∷ codes "$X" ∷ []) ∷ Header None ∷ Modseq 5 ∷ []))
 unfolding response_of line_of untagged_response_of number_response_of count_kind_of item_list_at items_at item_at item_name_of token_at tokens_end_at quoted_raw_at word_list_at nstring_at number_at positive_at
 row = refl

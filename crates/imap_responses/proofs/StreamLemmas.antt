@@ -64,6 +64,6 @@ ends_apart rest open_rest damage = elim damage [
   | inr b ↦ open_none b.unit b.more b.whole (subst IsIncomplete b.begins open_rest)
 ]
 
--- each response takes bytes: the measure of a loop that goes through them
+-- each response has bytes: the measure of a loop over responses
 pub answered_less : (old new : ReaderState) (answer : Result Bool ReadFault) (more : Bool) → answer ≡ Ok more → more ≡ true → AdvancesReader old answer new → length new.cut.rest < length old.cut.rest
 answered_less old new answer more is test a = gives_less old.cut new.cut (answers_of old new answer more is test a).unit

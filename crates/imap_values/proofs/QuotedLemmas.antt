@@ -1,4 +1,4 @@
--- A quoted string, byte after byte.
+-- A quoted string, byte by byte.
 use Rattle.std.proofs.Common.{if◌then◌else◌, ◌&&◌, ◌==◌, ◌≡◌, ℕ, ◌+◌, ◌<◌, ◌≤◌, Bool, true, false, eqb, cond, not, List, [], ◌∷◌, ◌++◌, length, take, drop, get_or, refl, sym, ap, ◌∙◌, arith, append_assoc, Option, Some, None}
 use Rattle.std.proofs.lemmas.List.{take_more, append-nil, length-drop, drop_all}
 use Rattle.std.specs.List.{prefix_len}
@@ -7,7 +7,7 @@ use Rattle.imap_values.specs.Words.{in_class, take_while_at}
 use Rattle.imap_values.specs.declared.words.Class.TheVariants as classes
 use Rattle.imap_values.proofs.WordLemmas.{split_at_byte}
 
--- the same text from its middle on: a `\` is held, or none
+-- the rest of a text after a `\`, or after another byte
 abbrev pub unescape_on : Bool → List ℕ → List ℕ
 unescape_on held [] = []
 unescape_on held (c ∷ text) = if not held && c == 92 then unescape_on true text else c ∷ unescape_on false text
@@ -62,7 +62,7 @@ cut_escape bytes at last e so =
     let nothing : drop (at + 1) bytes ≡ [] = drop_all (at + 1) bytes (omega arith) in
     so ∙ ap (λ (xs : List ℕ). prepend_all (take at bytes) (before_quote xs)) (back ∙ ap (λ (xs : List ℕ). 92 ∷ xs) nothing)
 
--- ---- escapes left out
+-- ---- removed escapes
 
 pub unescape_whole : (text : List ℕ) → unescape_on false text ≡ unescape text
 unescape_whole [] = refl

@@ -1,4 +1,4 @@
--- A value, token after token.
+-- A value, token by token.
 use Rattle.std.proofs.Common.{◌≡◌, ℕ, suc, ◌+◌, ◌-◌, ◌<◌, ◌≤◌, Bool, false, eqb, cond, List, refl, sym, ap, ◌∙◌, arith, Option, Some, None}
 use Rattle.imap_values.specs.declared.error.ParseError.{ParseError}
 use Rattle.imap_values.specs.declared.error.ParseError.TheVariants as errors

@@ -1,4 +1,4 @@
--- Words with spaces range_between them.
+-- Words with spaces between them.
 use Rattle.std.proofs.Common.{◌≡◌, ℕ, ◌+◌, ◌-◌, ◌<◌, ◌≤◌, false, eqb, List, [], ◌∷◌, ◌++◌, length, take, drop, get_or, refl, sym, ap, ◌∙◌, arith, add-one}
 use Rattle.std.specs.Borrow.{Bor}
 use Rattle.std.proofs.lemmas.List.{take_more, length-drop, get_or-drop}
@@ -20,7 +20,7 @@ word_ends text word i lt e = ap (λ (xs : List ℕ). words_from word xs) (split_
 goes : (word text : List ℕ) (c : ℕ) → eqb c 32 ≡ false → words_from word (c ∷ text) ≡ words_from (word ++ c ∷ []) text
 goes word text c e = rw e refl
 
--- another byte goes into the word
+-- another byte extends the word
 pub word_goes : (text : List ℕ) (from i : ℕ) → from ≤ i → i < length text → eqb (get_or text i 0) 32 ≡ false
     → words_from (take (i - from) (drop from text)) (drop i text) ≡ words_from (take (i + 1 - from) (drop from text)) (drop (i + 1) text)
 word_goes text from i le lt e =

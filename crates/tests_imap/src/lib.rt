@@ -1,4 +1,4 @@
-//! Tests of the IMAP crates by their public calls: commands, framing, the grammar of responses, and the reader of a whole dial.
+//! Tests of the IMAP crates by their public calls: commands, framing, the grammar of responses, and the reader of a connection.
 #![tactic(auto)]
 
 #[cfg(test)]
