@@ -36,3 +36,21 @@ first_named = refl
 -- folds are single spaces, and blanks at the ends go
 one_space : trimmed (unfolded (codes "  a " ∷ (9 ∷ codes "  b") ∷ codes " " ∷ codes " c " ∷ [])) ≡ codes "a  b  c"
 one_space = refl
+
+-- a continuation without a field before it, and names with other bytes than 0x21 to 0x7E
+first_continuation : header_of (codes " a" ++ 10 ∷ codes "B: c" ++ 10 ∷ []) ≡ record { fields = field (codes "B") (codes " c" ∷ []) ∷ []; body = 8 }
+unfolding header_of
+first_continuation = refl
+
+other_names : header_of (codes "A" ++ 127 ∷ codes ": b" ++ 10 ∷ codes "C" ++ 200 ∷ codes ": d" ++ 10 ∷ codes "!~: e") ≡ record { fields = field (codes "!~") (codes " e" ∷ []) ∷ []; body = 17 }
+unfolding header_of
+other_names = refl
+
+-- a line ends at LF alone; other CR stay
+returns : header_of (codes "A: b" ++ 13 ∷ 13 ∷ 10 ∷ codes "C:" ++ 13 ∷ codes "d" ++ 10 ∷ 13 ∷ 10 ∷ codes "e") ≡ record { fields = field (codes "A") ((codes " b" ++ 13 ∷ []) ∷ []) ∷ field (codes "C") ((13 ∷ codes "d") ∷ []) ∷ []; body = 14 }
+unfolding header_of
+returns = refl
+
+second_colon : header_of (codes "A: b:c") ≡ record { fields = field (codes "A") (codes " b:c" ∷ []) ∷ []; body = 6 }
+unfolding header_of
+second_colon = refl

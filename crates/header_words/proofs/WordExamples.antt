@@ -193,3 +193,21 @@ no_charset = refl
 word_in_a_word : with_words_decoded (codes "=?utf-8?q?=?utf-8?q?a?=?=") ≡ codes "=?utf-8?q?a?="
 unfolding with_words_decoded items_from joined word_at word_text utf8_lossy utf8_valid_len is_utf8 chars encode quoted_bytes line_bytes without_blanks unescaped bytes_of sextet_of
 word_in_a_word = refl
+
+-- ---- values: white space at both ends is dropped after decoding, and a fold is one space
+
+trimmed_value : decoded_of ((32 ∷ 9 ∷ codes " a b " ++ 9 ∷ []) ∷ []) ≡ codes "a b"
+unfolding decoded_of with_words_decoded items_from joined word_at word_text utf8_lossy utf8_valid_len is_utf8 chars encode quoted_bytes line_bytes without_blanks unescaped bytes_of sextet_of
+trimmed_value = refl
+
+trimmed_word : decoded_of (codes " =?utf-8?q?_a_?= " ∷ []) ≡ codes "a"
+unfolding decoded_of with_words_decoded items_from joined word_at word_text utf8_lossy utf8_valid_len is_utf8 chars encode quoted_bytes line_bytes without_blanks unescaped bytes_of sextet_of
+trimmed_word = refl
+
+folded_value : decoded_of (codes " a" ∷ codes "   b" ∷ (9 ∷ codes "=?utf-8?q?c?=") ∷ []) ≡ codes "a b c"
+unfolding decoded_of with_words_decoded items_from joined word_at word_text utf8_lossy utf8_valid_len is_utf8 chars encode quoted_bytes line_bytes without_blanks unescaped bytes_of sextet_of
+folded_value = refl
+
+no_value : decoded_of [] ≡ []
+unfolding decoded_of with_words_decoded items_from joined word_at word_text utf8_lossy utf8_valid_len is_utf8 chars encode quoted_bytes line_bytes without_blanks unescaped bytes_of sextet_of
+no_value = refl

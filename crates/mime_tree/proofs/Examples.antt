@@ -4,6 +4,9 @@ use Rattle.header_words.specs.Fields.{header_of}
 use Rattle.mime_tree.specs.Body.{places, range, is_closing_line, is_delimiter_line}
 use Rattle.mime_content.specs.Content.{content_of}
 use Rattle.mime_tree.specs.Opening.{node_at, children_from, inside, opens_beside, settle, opened, message_of, parts_of}
+use Rattle.std.specs.Prelude.{Some, None}
+use Rattle.std.specs.Option.{option_map}
+use Rattle.mime_tree.specs.Best.{part_at}
 use Rattle.mime_tree.specs.Tree.{PartValue}
 
 pub record Seen : Type 0 where
@@ -140,3 +143,20 @@ two_types = refl
 spaced_boundary : places (codes "a ") (codes "--a\n--a  \nx\n--a --\n") ≡ range 10 11 ∷ []
 unfolding places is_closing_line is_delimiter_line
 spaced_boundary = refl
+
+-- the part of a section, and of one that no part has: neither a front of a section nor a longer one finds a part
+second_part : option_map seen (part_at (2 ∷ []) (parts_of two_part_alternative_text)) ≡ Some (see (2 ∷ []) (codes "text/html") (codes "<p>hi"))
+unfolding parts_of message_of opened settle opens_beside inside children_from node_at content_of places is_closing_line is_delimiter_line header_of
+second_part = refl
+
+inner_part : option_map seen (part_at (1 ∷ 1 ∷ []) (parts_of outer_line_ends_inner_text)) ≡ Some (see (1 ∷ 1 ∷ []) (codes "text/plain") (codes "x"))
+unfolding parts_of message_of opened settle opens_beside inside children_from node_at content_of places is_closing_line is_delimiter_line header_of
+inner_part = refl
+
+no_inner_part : option_map seen (part_at (2 ∷ 1 ∷ []) (parts_of two_part_alternative_text)) ≡ None
+unfolding parts_of message_of opened settle opens_beside inside children_from node_at content_of places is_closing_line is_delimiter_line header_of
+no_inner_part = refl
+
+no_whole_part : option_map seen (part_at [] (parts_of two_part_alternative_text)) ≡ None
+unfolding parts_of message_of opened settle opens_beside inside children_from node_at content_of places is_closing_line is_delimiter_line header_of
+no_whole_part = refl
