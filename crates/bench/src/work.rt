@@ -12,15 +12,9 @@ pub enum Work {
     EncodeQuoted,
     Tree,
     /// Responses of a stream that comes in pieces of this many bytes.
-    Responses {
-        piece: usize,
-    },
-    ReadFlowed {
-        del_sp: bool,
-    },
-    WriteFlowed {
-        depth: u32,
-    },
+    Responses { piece: usize },
+    ReadFlowed { del_sp: bool },
+    WriteFlowed { depth: u32 },
     Spans,
     Tokens,
     PrintTokens,

@@ -1,12 +1,9 @@
 -- The pieces of a command while it is written.
 use Rattle.std.specs.Prelude.{◌≡◌, ℕ, List, ◌∷◌, ◌++◌, map}
 use Rattle.std.specs.Global.{Vec}
+pub use Rattle.mail_values.specs.Ascii.{bytes_of_vecs}
 use Rattle.imap_commands.specs.declared.pieces.Pieces.{Pieces}
 use Rattle.imap_commands.specs.Pieces.{Part, pieces_of, onto_first}
-
--- the bytes of each vector
-abbrev pub bytes_of_vecs : List (Vec ℕ) → List (List ℕ)
-bytes_of_vecs pieces = map (λ piece. piece.items) pieces
 
 -- the pieces so far, followed by those of more parts
 abbrev pub pieces_with : Pieces → List Part → List (List ℕ)

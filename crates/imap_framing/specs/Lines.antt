@@ -1,13 +1,11 @@
 -- The lines of a unit: which lines end with the size of a literal, `{n}`, and which units have literals (RFC 9051 §2.2.2, §4.3, §7).
-use Rattle.std.specs.Prelude.{ℕ, ◌+◌, ◌-◌, ◌*◌, Bool, false, not, ◌&&◌, ◌==◌, nat_le, if◌then◌else◌, List, [], ◌∷◌, codes}
+use Rattle.std.specs.Prelude.{ℕ, ◌+◌, ◌-◌, ◌*◌, Bool, false, not, ◌&&◌, ◌==◌, if◌then◌else◌, List, [], ◌∷◌, codes}
 use Rattle.std.specs.List.{list_any, fold, take_while}
 use Rattle.std.specs.Str.{str_eq_ignore_ascii_case}
-use Rattle.imap_framing.specs.Bytes.{space, asterisk, digit_zero, digit_nine, left_brace, right_brace}
+pub use Rattle.imap_framing.specs.Bytes.{is_digit}
+use Rattle.imap_framing.specs.Bytes.{space, asterisk, digit_zero, left_brace, right_brace}
 
 -- ---- how a line ends, byte by byte
-
-abbrev pub is_digit : ℕ → Bool
-is_digit c = nat_le digit_zero c && nat_le c digit_nine
 
 pub data Tail : Type 0 where
   -- without any part of a size; with `{`

@@ -1,14 +1,12 @@
 -- The units of a whole stream.
-use Rattle.std.specs.Prelude.{◌≡◌, ℕ, ◌+◌, List, ◌++◌, length, map, Result, Ok, Err}
+use Rattle.std.specs.Prelude.{◌≡◌, ℕ, ◌+◌, List, ◌++◌, length, Result, Ok, Err}
 use Rattle.std.specs.List.{concat, AllByRecursion}
 use Rattle.std.specs.Global.{Vec}
+pub use Rattle.mail_values.specs.Ascii.{bytes_of_vecs}
 use Rattle.imap_framing.specs.declared.stream.StreamFault.{StreamFault}
 use Rattle.imap_framing.specs.declared.stream.StreamFault.TheVariants.{TooLong, Memory}
 use Rattle.imap_framing.specs.Units.{IsUnit, IsIncomplete, HasTooLongLiteral}
 use Rattle.imap_framing.specs.Cuts.{Cut}
-
-abbrev pub bytes_of_vecs : List (Vec ℕ) → List (List ℕ)
-bytes_of_vecs vs = map (λ v. v.items) vs
 
 -- a stream is some parts and a rest
 pub record SplitsStream (IsPart : List ℕ → Type 0) (stream : List ℕ) (parts : List (List ℕ)) (rest : List ℕ) : Type 0 where

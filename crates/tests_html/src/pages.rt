@@ -71,7 +71,8 @@ fn written(
 fn writes_pages(rt: HostRuntime) -> Result<(), Fail> {
     let alloc = rt.alloc();
     let page = small_page(alloc, "a<b", "\"x\" & y\r\n\0")?;
-    let expected = "<!DOCTYPE html><html lang=\"en\"><head><meta charset=\"utf-8\"><title>a&lt;b</title></head><body>&quot;x&quot; &amp; y&#13;\n\u{FFFD}</body></html>";
+    let expected =
+        "<!DOCTYPE html><html lang=\"en\"><head><meta charset=\"utf-8\"><title>a&lt;b</title></head><body>&quot;x&quot; &amp; y&#13;\n\u{FFFD}</body></html>";
     let (is_whole, bytes) = written(alloc, &page, 1000, &[])?;
     assert!(rt; is_whole);
     assert_eq!(rt; bytes.as_slice(), expected.as_bytes());
@@ -94,13 +95,18 @@ fn writes_long_texts_piece_by_piece(rt: HostRuntime) -> Result<(), Fail> {
         let title = repeated(alloc, piece, 70_000)?;
         let page = small_page(alloc, title.as_str(), "short")?;
         let spelled = repeated(alloc, spelled, 70_000)?;
-        let expected = format!(in alloc; "<!DOCTYPE html><html lang=\"en\"><head><meta charset=\"utf-8\"><title>{spelled}</title></head><body>short</body></html>")?;
+        let expected = format!(in alloc;
+            "<!DOCTYPE html><html lang=\"en\"><head><meta charset=\"utf-8\"><title>{spelled}</title></head><body>short</body></html>"
+        )?;
         let (is_whole, bytes) = written(alloc, &page, 1_000_000, &[])?;
         assert!(rt; is_whole);
         assert!(rt; bytes.as_slice() == expected.as_bytes(), "{piece}");
         let (is_whole, bytes) = written(alloc, &page, 1_000_000, &[3])?;
         assert!(rt; !is_whole);
-        assert!(rt; expected.as_bytes().starts_with(bytes.as_slice()), "{piece}");
+        assert!(rt;
+            expected.as_bytes().starts_with(bytes.as_slice()),
+            "{piece}"
+        );
     }
     Ok(())
 }

@@ -68,3 +68,37 @@ fn each_call_with_ample_memory(rt: HostRuntime) -> Result<(), Fail> {
     );
     Ok(())
 }
+
+// A text of this many copies of a piece.
+fn repeated(alloc: Global, piece: &str, count: usize) -> Result<String, Memory> {
+    let mut text = String::with_capacity(alloc, piece.len() * count)?;
+    for _ in 0..count {
+        text.push_str(piece)?;
+    }
+    Ok(text)
+}
+
+// The length of a paragraph as it is written; none if it is refused.
+fn written_len(alloc: Global, depth: u32, text: String) -> Option<usize> {
+    let text = Text::from_string(text);
+    match write_flowed(alloc, &[Para { depth, text }]) {
+        Ok(text) => Some(text.len()),
+        Err(_) => None,
+    }
+}
+
+#[test]
+fn refuses_more_than_64_mib(rt: HostRuntime) -> Result<(), Fail> {
+    let alloc = rt.alloc();
+    for (depth, piece, count, len) in [
+        (262_144, "x ", 131_072, None),
+        (0, "x", 67_108_862, Some(67_108_864)),
+        (0, "x", 67_108_863, None),
+    ] {
+        let got = written_len(alloc, depth, repeated(alloc, piece, count)?);
+        assert_eq!(rt; got, len, "depth {depth}, {count} times");
+    }
+    let words = repeated(alloc, "x ", 131_072)?;
+    assert!(rt; written_len(alloc, 0, words).is_some());
+    Ok(())
+}
