@@ -177,7 +177,7 @@ line_break-place depth text =
 
 -- ---- a search through the bytes of a text
 
--- so many bytes of the text are passed: how wide the line is up to there, and the last place so far where it may end and fits
+-- after some bytes of the text: the width of the line, and the last place where it may end and fits
 pub record Scanned (depth : ℕ) (text : List ℕ) (size wide : ℕ) (last : Option ℕ) : Type 0 where
   pub within : size ≤ length text
   pub width_is : wide ≡ width (prefix depth text ++ take size text)

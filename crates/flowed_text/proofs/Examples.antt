@@ -79,7 +79,7 @@ empty = refl
 abbrev x's : ℕ → List ℕ
 x's n = replicate n 120
 
--- a word of 100 characters stands on a line of its own
+-- a word of 100 characters has a line of its own
 long_word : flow (para 0 (codes "a " ++ x's 100 ++ codes " b") ∷ []) ≡ codes "a " ++ crlf ++ x's 100 ++ codes " " ++ crlf ++ codes "b" ++ crlf
 unfolding flow line_break
 long_word = refl
@@ -89,7 +89,7 @@ from_here : flow (para 0 (x's 74 ++ codes " From here") ∷ []) ≡ x's 74 ++ co
 unfolding flow line_break
 from_here = refl
 
--- 76 characters stand before the flowing space, and two spaces at a break are a flowing one and a stuffed line
+-- 76 characters precede the flowing space, and two spaces at a break are a flowing one and a stuffed line
 two_spaces : flow (para 0 (x's 76 ++ codes "  b") ∷ []) ≡ x's 76 ++ codes " " ++ crlf ++ codes "  b" ++ crlf
 unfolding flow line_break
 two_spaces = refl

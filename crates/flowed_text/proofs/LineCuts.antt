@@ -8,7 +8,7 @@ use Rattle.std.proofs.lemmas.List.Elements.{All-head, All-tail, All-from_get_or}
 use Rattle.std.proofs.lemmas.List.Splits.{length-slice_split, slice_split_at, slice_split_none}
 use Rattle.flowed_text.specs.Lines.{skip_line_ending, is_ending, lines, single_endings, without_empty_last, strip_first}
 
--- ---- one byte that stands first
+-- ---- one byte at the front
 
 pub strip_first-here : (c b : ℕ) (rest : List ℕ) → b ≡ c → strip_first c (b ∷ rest) ≡ rest
 strip_first-here c b rest e = rw (eq-eqb b c e) refl

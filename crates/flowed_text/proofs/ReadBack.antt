@@ -19,7 +19,7 @@ mark_count-replicate : (n : ℕ) (rest : List ℕ) → mark_count rest ≡ 0 →
 mark_count-replicate zero rest none = none
 mark_count-replicate (suc n) rest none = let more = mark_count-replicate n rest none in omega arith
 
--- a text that is read as it stands
+-- a text that is read as it is
 record Bare (text : List ℕ) : Type 0 where
   no_marks : mark_count text ≡ 0
   kept : strip_first 32 text ≡ text
@@ -37,7 +37,7 @@ bare-of depth text stuffed =
     let both = or_parts (first == 32) (first == 62) inner.0 in
     bare-from text both.1 both.0
 
--- a text behind its stuffing
+-- a text after its stuffing
 record Stuffed (text : List ℕ) (space : Bool) : Type 0 where
   no_marks : mark_count (cond space (32 ∷ []) [] ++ text) ≡ 0
   read : strip_first 32 (cond space (32 ∷ []) [] ++ text) ≡ text

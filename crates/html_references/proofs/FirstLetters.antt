@@ -1,10 +1,10 @@
--- Letters with which no listed name begins.
+-- Letters that begin no listed name.
 use Rattle.std.proofs.Common.{◌≡◌, ℕ, Bool, true, false, ◌||◌, ◌==◌, List, [], ◌∷◌, codes, refl, sym, ap, ◌∙◌, inl, inr}
 use Rattle.std.proofs.lemmas.Bool.{cases_Bool, and_parts, eqb-true}
 use Rattle.std.specs.List.{list_all, list_any}
 use Rattle.html_references.specs.CodeReferences.{Listed, listed_names, begins_with_char, listed_with_first}
 
--- the letters with which names begin
+-- the first letters of names
 initials : List ℕ
 initials = codes "ACDEGILNOQRSTUYabcdefghilmnopqrstuyz"
 

@@ -1,4 +1,4 @@
--- The first listed name with which a text begins is the longest name of the definition.
+-- The first listed name at the beginning of a text is the longest name of the definition.
 use Rattle.std.proofs.Common.{◌≡◌, ℕ, ◌+◌, ◌≤◌, nat_lt, Bool, true, false, not, ◌&&◌, ◌==◌, if◌then◌else◌, List, [], ◌∷◌, ◌++◌, length, drop, map, Option, Some, None, option_map, refl, sym, ap, ◌∙◌, inl, inr, arith, length-append, eq-eqb, slice_index, rules}
 use Rattle.std.proofs.lemmas.Bool.{cases_Bool, and_parts, eqb-true}
 use Rattle.std.specs.List.{list_all}
@@ -45,7 +45,7 @@ not_closed (x ∷ word) (c ∷ text) h = elim (cases_Bool (x == c)) [
   | inr other ↦ rw other refl
 ]
 
--- ---- names of which none begins another
+-- ---- names that do not begin one another
 
 apart : Name → Name → Bool
 apart n m = not (begins_with n.spelling m.spelling) && not (begins_with m.spelling n.spelling)

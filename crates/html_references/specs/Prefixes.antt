@@ -1,4 +1,4 @@
--- Words with which a text begins.
+-- Words at the beginning of a text.
 use Rattle.std.specs.Prelude.{ℕ, Bool, true, false, ◌&&◌, ◌==◌, List, [], ◌∷◌}
 use Rattle.html_syntax.specs.Characters.{lower}
 

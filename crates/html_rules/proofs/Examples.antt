@@ -115,24 +115,24 @@ before = Doctype ∷ start_tag (codes "html") ∷ start_tag (codes "body") ∷ [
 inside : List Token
 inside = start_tag (codes "p") ∷ start_tag_with (codes "img") (codes "src") (codes "/part/0/0/2.2?f=") ∷ Char 65 ∷ End (codes "p") ∷ []
 
-behind : List Token
-behind = Char 10 ∷ End (codes "body") ∷ End (codes "html") ∷ []
+after_mail : List Token
+after_mail = Char 10 ∷ End (codes "body") ∷ End (codes "html") ∷ []
 
 mail : Token
 mail = start_tag_with (codes "div") (codes "class") (codes "mail")
 
 page : List Token
-page = before ++ (mail ∷ inside ++ (End (codes "div") ∷ behind))
+page = before ++ (mail ∷ inside ++ (End (codes "div") ∷ after_mail))
 
 page_is_allowed : IsAllowed page false own
-unfolding page before inside behind mail is_frame_token opens_mail is_element message_elements frame_elements is_frame_attribute_name frame_attributes is_message_token is_message_element is_listed_attribute common_attributes attribute_rows kind_of value_kind_rows is_value_of_attribute is_value_of is_source is_void message_void_elements frame_void_elements open_elements_after
-page_is_allowed = inr (record { before = before; mail = mail; message = inside; after = behind; equals = refl; before_is_frame = refl; opens = refl; is_a_message = refl; is_nested = refl; after_is_frame = refl })
+unfolding page before inside after_mail mail is_frame_token opens_mail is_element message_elements frame_elements is_frame_attribute_name frame_attributes is_message_token is_message_element is_listed_attribute common_attributes attribute_rows kind_of value_kind_rows is_value_of_attribute is_value_of is_source is_void message_void_elements frame_void_elements open_elements_after
+page_is_allowed = inr (record { before = before; mail = mail; message = inside; after = after_mail; equals = refl; before_is_frame = refl; opens = refl; is_a_message = refl; is_nested = refl; after_is_frame = refl })
 
 page_loads : loads page ≡ codes "/part/0/0/2.2?f=" ∷ []
-unfolding loads page before inside behind mail
+unfolding loads page before inside after_mail mail
 page_loads = refl
 
--- with a script in it, wherever it stands, it is refused
+-- a page with a script is refused
 page_with_script : IsAllowed (start_tag (codes "script") ∷ page) false own → true ≡ false
 unfolding is_frame_token is_element message_elements frame_elements is_message_token is_message_element
 page_with_script h = sym (allowed_known (start_tag (codes "script") ∷ page) false own h)

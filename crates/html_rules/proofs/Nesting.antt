@@ -45,7 +45,7 @@ open_after-outer inside (Char c ∷ xs) after outer h = open_after-outer inside 
 open_after-outer inside (Comment text ∷ xs) after outer h = open_after-outer inside xs after outer h
 open_after-outer inside (Doctype ∷ xs) after outer h = open_after-outer inside xs after outer h
 
--- a nested list may stand anywhere
+-- a nested list may come anywhere
 pub open_after-nested : (inside : List Name) (xs ys : List Token) → IsNested xs → open_elements_after inside (xs ++ ys) ≡ open_elements_after inside ys
 open_after-nested inside xs ys h = open_after-append inside xs ys inside (open_after-outer [] xs [] inside h)
 

@@ -186,7 +186,7 @@ body_piece kept xs ys utf8 lacks begins =
     ap (body kept 0) (input-append xs ys utf8 (begins_marked 45 (omega arith) (λ (e : 45 ≡ 10). omega arith) ys begins))
     ∙ run body is_undashed replace_null body_keeps kept (input xs) (input ys) (all-input is_undashed (λ c big. grind (arith, nat_tests)) (λ _. refl) xs utf8 lacks)
 
--- a hyphen with which the comment goes on
+-- a hyphen that continues the comment
 abbrev pub GoesOn : List ℕ → Type 0
 GoesOn text = closing_len text ≡ 0
 
@@ -495,7 +495,7 @@ doctype_ends text len end utf8 cut lacks ends =
 
 -- ---- by places
 
--- a comment of which the text ends here
+-- a comment whose text ends here
 pub body_closes : (all : List Token) (text : List ℕ) (at : ℕ) → IsUtf8 text → IsCharBoundary text at → (at < length text → 0 < closing_len (drop at text))
     → all ≡ read (CommentBody (map replace_null (input (take at text)))) 0 (input (drop at text))
     → all ≡ Comment (map replace_null (input (take at text))) ∷ read Data 0 (input (drop (at + closing_len (drop at text)) text))

@@ -305,7 +305,7 @@ opened_two b t utf8 h g = elim (cases_Bool (b == 33)) [
   ]
 ]
 
--- nothing but markup, of which `</>` is none
+-- nothing but markup, which `</>` is not
 pub opened_by : (rest : List ℕ) → IsUtf8 rest → opens_markup rest ≡ true → begins_empty_tag rest ≡ false → Opened rest (opening_of rest)
 opened_by [] utf8 h g = absurd cc
 opened_by (a ∷ []) utf8 h g = absurd cc

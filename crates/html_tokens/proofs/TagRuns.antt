@@ -15,7 +15,7 @@ use Rattle.html_tokens.specs.Tags.{BeginsOutside}
 use Rattle.html_tokens.proofs.Runs.{Reader, Keeps, run}
 use Rattle.html_references.proofs.Stretches.{PassesWide, input-first, input-cons, input-nil, input-return_feed, input-return_alone, input-cut_plain, all-input, boundary_at, utf8_tail}
 
--- ---- the bytes of a class with which a text begins
+-- ---- the leading bytes of a class
 
 one : (n : ℕ) → 1 + n ≡ suc n
 one n = omega arith

@@ -97,7 +97,7 @@ in_quotes (b ∷ bytes) quote len end utf8 is e at lacks ends = λ t n.
 
 -- ---- without quotes
 
--- a character with which such a value may begin
+-- a character that may begin such a value
 is_bare : ℕ → Bool
 is_bare c = not (is_blank c || c == 34 || c == 39)
 

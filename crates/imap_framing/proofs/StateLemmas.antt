@@ -56,7 +56,7 @@ line_on first line (c ∷ bytes) = elim (cases_Bool (is_feed c)) [
       (ap (λ (p : FrameState). frame_state_from p before) (byte_on first line c test) ∙ line_on first (line ++ c ∷ []) bytes ∙ ap (Line first) (append_assoc line (c ∷ []) before))
 ]
 
--- an LF behind a line
+-- an LF after a line
 pub feed_on : (unit : List ℕ) (at : ℕ) (first : Bool) (line : List ℕ) → at < length unit → get_or unit at 0 ≡ 10 → frame_state (take at unit) ≡ Line first line → frame_state (take (at + 1) unit) ≡ step (Line first line) 10
 unfolding frame_state_from
 feed_on unit at first line lt feed here =

@@ -83,7 +83,7 @@ goes_on P s p r0 r1 r2 units0 units1 split at is t =
       at = omega (arith, t.at, at, at1, ap length joined, length-append (concat units0) (concat t.more));
     }
 
--- the pieces to come are behind the rest
+-- the pieces to come follow the rest
 pub ends_before : (P : List ℕ → Type 0) (pieces : List (Vec ℕ)) (i : ℕ) (p : Vec ℕ) (parts : List (List ℕ)) (cut : Cut) → i < length pieces → p ≡ get_or pieces i p
     → Goes P (concat (bytes_of_vecs (take i pieces)) ++ p.items) parts cut → SplitsStream P (concat (bytes_of_vecs pieces)) parts (cut.rest ++ concat (bytes_of_vecs (drop (i + 1) pieces)))
 ends_before P pieces i p parts cut lt is g =

@@ -1,4 +1,4 @@
--- Where some bytes stand in their first unit, computed.
+-- The places of some bytes in their first unit, computed.
 use Rattle.std.proofs.Common.{◌≡◌, [], codes, refl, true, false}
 use Rattle.imap_framing.specs.Units.{step, frame_state_from, frame_state, IsUnit, HasTooLongLiteral}
 use Rattle.imap_framing.specs.Units.FrameState.{Line, Octets, Past}

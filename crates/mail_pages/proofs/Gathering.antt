@@ -95,7 +95,7 @@ pub gathers-two : (first middle last : Page) (a b c x y more : List ℕ) → Gat
     → last.written ++ (text c ++ text more) ≡ first.written ++ (text a ++ text (x ++ (y ++ more)))
 gathers-two first middle last a b c x y more one two = two.written more ∙ one.written (y ++ more)
 
--- a text of which nothing is left
+-- a text that was written whole
 pub gathers-from : (first after : Page) (gathered left whole : List ℕ) → left ≡ []
     → ((more : List ℕ) → after.written ++ (text gathered ++ text (with_line_feeds left ++ more)) ≡ first.written ++ (text [] ++ text (whole ++ more))) → after.opened ≡ first.opened
     → GathersText first [] after gathered whole

@@ -18,7 +18,7 @@ pub line_feeds-clean : (text : List ℕ) → length text ≤ position_or_len is_
 unfolding with_line_feeds
 line_feeds-clean text clean = ap join_lines (slice_split_whole is_carriage_return text clean) ∙ append-nil text
 
--- the first piece without the LF that stands first in it
+-- the first piece without its leading LF
 abbrev first_without : List (List ℕ) → List (List ℕ)
 first_without [] = []
 first_without (piece ∷ more) = skip_line_feed piece ∷ more
@@ -62,7 +62,7 @@ line_feeds-step text found =
     let parts : slice_split is_carriage_return text ≡ before_first is_carriage_return text ∷ (after.head ∷ after.tail) = slice_split_first is_carriage_return text 0 found ∙ ap (λ ps. before_first is_carriage_return text ∷ ps) after.is in
     ap join_lines parts ∙ ap (λ ps. before_first is_carriage_return text ++ 10 ∷ join_lines ps) (sym (pieces_without (after_first is_carriage_return text) ∙ ap first_without after.is))
 
--- the bytes without the LF that stands first
+-- the bytes without a leading LF
 pub without-stripped : (text rest : List ℕ) → text ≡ 10 ∷ rest → rest ≡ skip_line_feed text
 without-stripped text rest e = ap skip_line_feed (sym e)
 

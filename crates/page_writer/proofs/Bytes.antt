@@ -32,7 +32,7 @@ pub spell_bytes-append : (xs ys : List ℕ) → spell_bytes (xs ++ ys) ≡ spell
 unfolding spell_bytes
 spell_bytes-append xs ys = flat_map-append spell_byte xs ys
 
--- a number from 128 on is none of those that may not stand for themselves
+-- a number from 128 on is spelled as itself
 high_char : (c : ℕ) → 128 ≤ c → spell_char c ≡ c ∷ []
 high_char c h = grind (arith, nat_tests)
 
@@ -113,7 +113,7 @@ plain_byte b g h =
     let e1 = or3_false (eqb b 34) (eqb b 13) (eqb b 0) h in
     rw (e1.2, e0.0, e0.1, e0.2, e1.0, e1.1) refl
 
--- bytes among which a search for those that may not stand for themselves found none
+-- bytes among which a search found none that is escaped
 pub plain_bytes : (bs : List ℕ) → ((k : ℕ) → k < length bs → is_byte3 60 62 38 (get_or bs k 0) ≡ true → ⊥) → ((k : ℕ) → k < length bs → is_byte3 34 13 0 (get_or bs k 0) ≡ true → ⊥) → spell_bytes bs ≡ bs
 unfolding spell_bytes
 plain_bytes [] g h = refl

@@ -7,7 +7,7 @@ use Rattle.html_rules.specs.Tables.{is_attribute_name}
 use Rattle.page_writer.specs.Page.{IsWritable, are_attributes, are_distinct}
 use Rattle.html_rules.proofs.Facts.{and_true, no_of, or_false, same-true, same-refl}
 
--- of the lists, with values that can be shown, and none of a name that stands before it
+-- listed attributes with writable values and names that differ from those before
 abbrev pub AreAttributes : List Attribute → List Attribute → Type 0
 AreAttributes earlier [] = Unit {0}
 AreAttributes earlier (a ∷ rest) =

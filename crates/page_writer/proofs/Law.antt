@@ -18,7 +18,7 @@ use Rattle.page_writer.proofs.Names.{is_name, is_name_char, name_chars, element_
 use Rattle.page_writer.proofs.Names.Spelled.{is_lt, is_gt, is_amp, is_quot, is_cr, itself}
 use Rattle.page_writer.proofs.Reading.{not_nul, data_char, text_char, start_reads, end_reads, title_end, textarea_end, doctype_reads}
 
--- the state in which a page stands where these elements are open
+-- the state of the tokenizer if these elements are open
 abbrev state_in : List (List ℕ) → State
 state_in [] = Data
 state_in (name ∷ names) = cond (is_text_only name) (Raw Rcdata name) Data

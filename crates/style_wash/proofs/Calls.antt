@@ -7,7 +7,7 @@ use Rattle.style_wash.specs.Characters.{is_delimiter}
 use Rattle.style_wash.specs.Declarations.{calls_only_rgb, next_name}
 use Rattle.style_wash.proofs.Facts.{and_true}
 
--- a text calls no function but `rgb`, whatever name stands before it
+-- a text calls no function but `rgb`, whatever name precedes it
 pub record CallsOnlyRgb (text : List ℕ) : Type 0 where
   pub whatever : (name : List ℕ) → calls_only_rgb name text ≡ true
 

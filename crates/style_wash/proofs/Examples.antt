@@ -159,7 +159,7 @@ white : stylewash (codes "color" ++ 9 ∷ codes ":" ++ 10 ∷ 13 ∷ codes "a" +
 unfolding stylewash declarations pieces declaration_of value_after_colon value_of value_in parts steps_of item_of is_plain is_number is_rgb is_name separator_of trimmed property_of properties is_unit units written style_of
 white = refl
 
--- bytes beyond ASCII and U+0000 stand in no declaration
+-- bytes beyond ASCII and U+0000 are in no declaration
 other_bytes : stylewash (codes "color:r" ++ 0xC3 ∷ 0xA9 ∷ codes "d;width:1px;color:re" ++ 0 ∷ codes "d") ≡ codes "width: 1px"
 unfolding stylewash declarations pieces declaration_of value_after_colon value_of value_in parts steps_of item_of is_plain is_number is_rgb is_name separator_of trimmed property_of properties is_unit units written style_of
 other_bytes = refl

@@ -134,7 +134,7 @@ letter_char c e = grind (arith, nat_tests)
 pub hexadecimal_char : (c : ℕ) → is_ascii_hexdigit c ≡ true → is_plain_char c ≡ true
 hexadecimal_char c e = grind (arith, nat_tests)
 
--- digits and commas: what stands between the brackets of a colour
+-- digits and commas: the contents of the brackets of a colour
 abbrev pub is_level_char : ℕ → Bool
 is_level_char c = c == 44 || is_digit c
 

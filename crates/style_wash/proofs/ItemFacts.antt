@@ -18,13 +18,13 @@ use Rattle.style_wash.proofs.Facts.{and_true, all_append, all_wider, all_wider_t
 
 -- ---- walks over a text
 
--- no separator stands outside of quotes and brackets, and all of them are closed
+-- no separator is outside of quotes and brackets, and all of these are closed
 unfoldable pub holds : Nesting → List ℕ → Bool
 holds Outside [] = true
 holds (Until end) [] = false
 holds place (c ∷ more) = not (is_item_end place c) && holds (nesting_after true place c) more
 
--- no `;` stands in the text, and all quotes are closed
+-- the text has no `;`, and all quotes are closed
 unfoldable pub quiet : Nesting → List ℕ → Bool
 quiet Outside [] = true
 quiet (Until end) [] = false
@@ -102,7 +102,7 @@ unit_chars : (text : List ℕ) → is_unit text ≡ true → list_all is_plain_c
 unfolding is_unit units
 unit_chars text e = among_all (list_all is_plain_char) ([] ∷ units) text refl e
 
--- what stands before the unit of a number
+-- the digits of a number, before its unit
 number_chars : (text : List ℕ) → list_all is_plain_char (before_first begins_unit text) ≡ true
 number_chars text =
     list_all-from_AllPass is_plain_char (before_first begins_unit text) (λ k d below.
@@ -201,7 +201,7 @@ pub record EndsDark (text : List ℕ) : Type 0 where
   pub is : text ≡ front ++ last ∷ []
   pub dark : is_white last ≡ false
 
--- an item whose written form reads as the item, and stands as one text in a value and in a style
+-- an item whose written form reads as the item, and is one text in a value and in a style
 pub record IsGood (item : Item) : Type 0 where
   pub reads : item_of (written_item item) ≡ Some item
   pub whole : holds Outside (written_item item) ≡ true

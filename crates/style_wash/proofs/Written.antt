@@ -21,7 +21,7 @@ pub record GoodValue (value : Value) : Type 0 where
   pub more : AllByRecursion GoodStep value.more
   pub few : length value.more ≤ 15
 
--- so many good steps at most
+-- at most that number of good steps
 pub record GoodSteps (n : ℕ) (steps : List Step) : Type 0 where
   pub each : AllByRecursion GoodStep steps
   pub few : length steps ≤ n

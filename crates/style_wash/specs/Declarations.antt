@@ -111,7 +111,7 @@ WashedCharacters = (text : List ℕ) → IsTrue (list_all is_style_char (stylewa
 abbrev pub next_name : List ℕ → ℕ → List ℕ
 next_name name c = if is_delimiter c then [] else name ++ c ∷ []
 
--- The whole name before each `(` is `rgb`. `name` is what stands before the text after the last delimiter.
+-- The whole name before each `(` is `rgb`. `name` is what precedes the text after the last delimiter.
 unfoldable pub calls_only_rgb : List ℕ → List ℕ → Bool
 calls_only_rgb name [] = true
 calls_only_rgb name (c ∷ more) = (not (c == left_parenthesis) || bytes_eq name (codes "rgb")) && calls_only_rgb (next_name name c) more

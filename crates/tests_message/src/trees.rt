@@ -325,7 +325,7 @@ fn nested(alloc: Global, depth: u8) -> Result<String, Memory> {
     Ok(text)
 }
 
-/// A multipart of so many parts of one byte.
+/// A multipart with `count` parts of one byte.
 fn flat(alloc: Global, count: u16) -> Result<String, Memory> {
     let mut text = String::from_str(alloc, "Content-Type: multipart/mixed; boundary=a\n\n")?;
     for _ in 0..count {

@@ -93,7 +93,7 @@ fn run_on(
     Ok(Run { status, page })
 }
 
-/// A body of so many line feeds.
+/// A body of `count` line feeds.
 fn lines_of(alloc: Global, count: usize) -> Result<Vec<u8>, Memory> {
     let mut message = Vec::with_capacity(alloc, count)?;
     for _ in 0..count {

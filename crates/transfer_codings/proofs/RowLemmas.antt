@@ -158,7 +158,7 @@ before-nothing (line ∷ lines) some = refl
 pub broken_lines-before : (text : List ℕ) → broken_lines text ≡ before [] (broken_lines text)
 broken_lines-before text = sym (before-nothing (broken_lines text) (broken_lines-some text))
 
--- a line that is written, and its break behind it
+-- a written line, and its break after it
 pub written_line : (new middle old text line rest : List ℕ) → broken_lines text ≡ line ∷ broken_lines rest
     → middle ≡ old ++ rest_of_line 0 line → new ≡ middle ++ 13 ∷ 10 ∷ []
     → new ++ quoted_text rest ≡ old ++ quoted_text text
