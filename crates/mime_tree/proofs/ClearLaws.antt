@@ -16,7 +16,7 @@ use Rattle.mime_tree.specs.declared.node.Position.TheVariants.{Body, Child}
 use Rattle.mime_tree.specs.declared.node.Node.{Node}
 use Rattle.mime_tree.specs.Body.{is_delimiter_line, places}
 use Rattle.mime_tree.specs.Content.{is_multipart, default_in}
-use Rattle.mime_tree.specs.Opening.{node_at, children_from, inside, prefix_of, section_of}
+use Rattle.mime_tree.specs.Opening.{node_at, children_from, children_of, prefix_of, section_of}
 use Rattle.mime_tree.specs.Laws.{IsClear, HasPlace, IsInside, direct, deeper, OuterLinesEndParts}
 use Rattle.mime_tree.proofs.OpeningLemmas.{inside_message, inside_multipart}
 use Rattle.mime_tree.proofs.LineLaws.{Each, EachPasses, places_pass}
@@ -134,7 +134,7 @@ clear_to : (bytes boundary : List ℕ) (n : Node) → IsClear bytes boundary n �
 clear_to bytes boundary n h = list_all-from_AllPass (clear_of boundary) (lines (slice_range bytes n.body n.to)) (λ k d lt. not_false _ (h k d lt))
 
 -- a test that each line of a node's body passes, or each that delimits no part of it
-inside_passes : (q : List ℕ → Bool) (bytes : List ℕ) (n : Node) → n.body ≤ n.to → n.to ≤ length bytes → Each q (slice_range bytes n.body n.to) → EachNode q bytes (inside bytes n)
+inside_passes : (q : List ℕ → Bool) (bytes : List ℕ) (n : Node) → n.body ≤ n.to → n.to ≤ length bytes → Each q (slice_range bytes n.body n.to) → EachNode q bytes (children_of bytes n)
 inside_passes q bytes n le fits each =
     let text = slice_range bytes n.body n.to in
     let boundary = unwrap_or n.content.boundary [] in
@@ -149,7 +149,7 @@ inside_passes q bytes n le fits each =
           (All-nil (λ (m : Node). Each q (slice_range bytes m.body m.to))))
     ]
 
-own_passes : (bytes : List ℕ) (n : Node) → n.body ≤ n.to → n.to ≤ length bytes → is_multipart n.content.mime ≡ true → EachNode (clear_of (unwrap_or n.content.boundary [])) bytes (inside bytes n)
+own_passes : (bytes : List ℕ) (n : Node) → n.body ≤ n.to → n.to ≤ length bytes → is_multipart n.content.mime ≡ true → EachNode (clear_of (unwrap_or n.content.boundary [])) bytes (children_of bytes n)
 own_passes bytes n le fits parts =
     let text = slice_range bytes n.body n.to in
     let boundary = unwrap_or n.content.boundary [] in
@@ -180,7 +180,7 @@ children_place bytes n k (r ∷ rs) le fits h =
     let more = children_place bytes n (k + 1) rs le fits h.1 in
     λ i d lt. places_cons bytes (node_at bytes (default_in n.content.mime) (Child (prefix_of n.position ++ k ∷ [])) (n.around + 1) n.enclosed (n.body + r.from) (n.body + r.to)) (children_from bytes n (k + 1) rs) one more i d lt
 
-inside_place : (bytes : List ℕ) (n : Node) → HasPlace bytes n → All (HasPlace bytes) (inside bytes n)
+inside_place : (bytes : List ℕ) (n : Node) → HasPlace bytes n → All (HasPlace bytes) (children_of bytes n)
 inside_place bytes n place =
     let text = slice_range bytes n.body n.to in
     let boundary = unwrap_or n.content.boundary [] in
@@ -203,15 +203,15 @@ inner : (bytes : List ℕ) (n c : Node) → HasPlace bytes n → is_multipart n.
 inner bytes n _ place parts (direct c at) =
     let boundary = unwrap_or n.content.boundary [] in
     record {
-      place = All-contains (HasPlace bytes) (inside bytes n) c (inside_place bytes n place) at;
-      clear = clear_from bytes boundary c (All-contains (λ (m : Node). Each (clear_of boundary) (slice_range bytes m.body m.to)) (inside bytes n) c (own_passes bytes n place.ordered place.within parts) at);
+      place = All-contains (HasPlace bytes) (children_of bytes n) c (inside_place bytes n place) at;
+      clear = clear_from bytes boundary c (All-contains (λ (m : Node). Each (clear_of boundary) (slice_range bytes m.body m.to)) (children_of bytes n) c (own_passes bytes n place.ordered place.within parts) at);
     }
 inner bytes n _ place parts (deeper m c stands at) =
     let boundary = unwrap_or n.content.boundary [] in
     let around = inner bytes n m place parts stands in
     record {
-      place = All-contains (HasPlace bytes) (inside bytes m) c (inside_place bytes m around.place) at;
-      clear = clear_from bytes boundary c (All-contains (λ (k : Node). Each (clear_of boundary) (slice_range bytes k.body k.to)) (inside bytes m) c
+      place = All-contains (HasPlace bytes) (children_of bytes m) c (inside_place bytes m around.place) at;
+      clear = clear_from bytes boundary c (All-contains (λ (k : Node). Each (clear_of boundary) (slice_range bytes k.body k.to)) (children_of bytes m) c
           (inside_passes (clear_of boundary) bytes m around.place.ordered around.place.within (clear_to bytes boundary m around.clear)) at);
     }
 

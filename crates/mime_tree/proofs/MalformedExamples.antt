@@ -9,8 +9,8 @@ use Rattle.mime_tree.specs.declared.choice.Shown.TheVariants.{Plain, Flowed, Htm
 use Rattle.mime_tree.specs.Body.{places, is_closing_line, is_delimiter_line}
 use Rattle.mime_content.specs.Content.{content_of}
 use Rattle.mime_tree.specs.Tree.{PartValue}
-use Rattle.mime_tree.specs.Opening.{node_at, children_from, inside, opens_beside, settle, opened, message_of, parts_of, tree_of}
-use Rattle.mime_tree.specs.Best.{best_of, given}
+use Rattle.mime_tree.specs.Opening.{node_at, children_from, children_of, opens_beside, open_first, tree_after_steps, message_of, parts_of, tree_of}
+use Rattle.mime_tree.specs.Best.{best_of, leaf_to_show}
 
 -- a part by its section, its type and the size of its body
 record Listing : Type 0 where
@@ -62,7 +62,7 @@ first_rows =
     ∷ []
 
 first_rows-hold : map (λ r. listed_in r.message) first_rows ≡ map (λ r. r.listed) first_rows
-unfolding best_of given tree_of parts_of message_of opened settle opens_beside inside children_from node_at content_of places is_closing_line is_delimiter_line header_of utf8_lossy utf8_valid_len is_utf8 chars encode
+unfolding best_of leaf_to_show tree_of parts_of message_of tree_after_steps open_first opens_beside children_of children_from node_at content_of places is_closing_line is_delimiter_line header_of utf8_lossy utf8_valid_len is_utf8 chars encode
 first_rows-hold = refl
 
 abbrev second_rows : List Row
@@ -88,7 +88,7 @@ second_rows =
     ∷ []
 
 second_rows-hold : map (λ r. listed_in r.message) second_rows ≡ map (λ r. r.listed) second_rows
-unfolding best_of given tree_of parts_of message_of opened settle opens_beside inside children_from node_at content_of places is_closing_line is_delimiter_line header_of utf8_lossy utf8_valid_len is_utf8 chars encode
+unfolding best_of leaf_to_show tree_of parts_of message_of tree_after_steps open_first opens_beside children_of children_from node_at content_of places is_closing_line is_delimiter_line header_of utf8_lossy utf8_valid_len is_utf8 chars encode
 second_rows-hold = refl
 
 abbrev third_rows : List Row
@@ -114,7 +114,7 @@ third_rows =
     ∷ []
 
 third_rows-hold : map (λ r. listed_in r.message) third_rows ≡ map (λ r. r.listed) third_rows
-unfolding best_of given tree_of parts_of message_of opened settle opens_beside inside children_from node_at content_of places is_closing_line is_delimiter_line header_of utf8_lossy utf8_valid_len is_utf8 chars encode
+unfolding best_of leaf_to_show tree_of parts_of message_of tree_after_steps open_first opens_beside children_of children_from node_at content_of places is_closing_line is_delimiter_line header_of utf8_lossy utf8_valid_len is_utf8 chars encode
 third_rows-hold = refl
 
 abbrev fourth_rows : List Row
@@ -140,7 +140,7 @@ fourth_rows =
     ∷ []
 
 fourth_rows-hold : map (λ r. listed_in r.message) fourth_rows ≡ map (λ r. r.listed) fourth_rows
-unfolding best_of given tree_of parts_of message_of opened settle opens_beside inside children_from node_at content_of places is_closing_line is_delimiter_line header_of utf8_lossy utf8_valid_len is_utf8 chars encode
+unfolding best_of leaf_to_show tree_of parts_of message_of tree_after_steps open_first opens_beside children_of children_from node_at content_of places is_closing_line is_delimiter_line header_of utf8_lossy utf8_valid_len is_utf8 chars encode
 fourth_rows-hold = refl
 
 abbrev fifth_rows : List Row
@@ -166,7 +166,7 @@ fifth_rows =
     ∷ []
 
 fifth_rows-hold : map (λ r. listed_in r.message) fifth_rows ≡ map (λ r. r.listed) fifth_rows
-unfolding best_of given tree_of parts_of message_of opened settle opens_beside inside children_from node_at content_of places is_closing_line is_delimiter_line header_of utf8_lossy utf8_valid_len is_utf8 chars encode
+unfolding best_of leaf_to_show tree_of parts_of message_of tree_after_steps open_first opens_beside children_of children_from node_at content_of places is_closing_line is_delimiter_line header_of utf8_lossy utf8_valid_len is_utf8 chars encode
 fifth_rows-hold = refl
 
 abbrev sixth_rows : List Row
@@ -192,7 +192,7 @@ sixth_rows =
     ∷ []
 
 sixth_rows-hold : map (λ r. listed_in r.message) sixth_rows ≡ map (λ r. r.listed) sixth_rows
-unfolding best_of given tree_of parts_of message_of opened settle opens_beside inside children_from node_at content_of places is_closing_line is_delimiter_line header_of utf8_lossy utf8_valid_len is_utf8 chars encode
+unfolding best_of leaf_to_show tree_of parts_of message_of tree_after_steps open_first opens_beside children_of children_from node_at content_of places is_closing_line is_delimiter_line header_of utf8_lossy utf8_valid_len is_utf8 chars encode
 sixth_rows-hold = refl
 
 abbrev seventh_rows : List Row
@@ -218,7 +218,7 @@ seventh_rows =
     ∷ []
 
 seventh_rows-hold : map (λ r. listed_in r.message) seventh_rows ≡ map (λ r. r.listed) seventh_rows
-unfolding best_of given tree_of parts_of message_of opened settle opens_beside inside children_from node_at content_of places is_closing_line is_delimiter_line header_of utf8_lossy utf8_valid_len is_utf8 chars encode
+unfolding best_of leaf_to_show tree_of parts_of message_of tree_after_steps open_first opens_beside children_of children_from node_at content_of places is_closing_line is_delimiter_line header_of utf8_lossy utf8_valid_len is_utf8 chars encode
 seventh_rows-hold = refl
 
 abbrev eighth_rows : List Row
@@ -234,5 +234,5 @@ eighth_rows =
     ∷ []
 
 eighth_rows-hold : map (λ r. listed_in r.message) eighth_rows ≡ map (λ r. r.listed) eighth_rows
-unfolding best_of given tree_of parts_of message_of opened settle opens_beside inside children_from node_at content_of places is_closing_line is_delimiter_line header_of utf8_lossy utf8_valid_len is_utf8 chars encode
+unfolding best_of leaf_to_show tree_of parts_of message_of tree_after_steps open_first opens_beside children_of children_from node_at content_of places is_closing_line is_delimiter_line header_of utf8_lossy utf8_valid_len is_utf8 chars encode
 eighth_rows-hold = refl

@@ -13,7 +13,7 @@ use Rattle.header_words.specs.Fields.{Header, header_of}
 use Rattle.mime_content.specs.declared.content.Content.{Content}
 use Rattle.mime_tree.specs.Content.{is_multipart, default_in}
 use Rattle.mime_content.specs.Content.{content_of}
-use Rattle.mime_tree.specs.Opening.{Opened, node_at, children_from, inside, can_open, own, part_of, section_of, prefix_of, is_body, is_raw, opens_beside, settle, opened, IsSound, parts_of, message_of}
+use Rattle.mime_tree.specs.Opening.{Opened, node_at, children_from, children_of, can_open, own_parts, part_of, section_of, prefix_of, is_body, is_raw, opens_beside, open_first, tree_after_steps, IsSound, parts_of, message_of}
 
 abbrev message_at : ℕ → ℕ → Content → Node
 message_at body to content = record { position = Body None; around = 0; enclosed = false; body = body; to = to; content = content }
@@ -21,12 +21,12 @@ message_at body to content = record { position = Body None; around = 0; enclosed
 abbrev pub opened_of : List PartValue → List Node → Opened
 opened_of parts waiting = record { parts = parts; waiting = waiting }
 
-pub inside_message : (bytes : List ℕ) (n : Node) → false ≡ is_multipart n.content.mime → inside bytes n ≡ node_at bytes (codes "text/plain") (Body (Some (section_of n.position))) (n.around + 1) true n.body n.to ∷ []
-unfolding inside
+pub inside_message : (bytes : List ℕ) (n : Node) → false ≡ is_multipart n.content.mime → children_of bytes n ≡ node_at bytes (codes "text/plain") (Body (Some (section_of n.position))) (n.around + 1) true n.body n.to ∷ []
+unfolding children_of
 inside_message bytes n h = rw (← h) refl
 
-pub inside_multipart : (bytes : List ℕ) (n : Node) → true ≡ is_multipart n.content.mime → inside bytes n ≡ children_from bytes n 1 (places (unwrap_or n.content.boundary []) (slice_range bytes n.body n.to))
-unfolding inside
+pub inside_multipart : (bytes : List ℕ) (n : Node) → true ≡ is_multipart n.content.mime → children_of bytes n ≡ children_from bytes n 1 (places (unwrap_or n.content.boundary []) (slice_range bytes n.body n.to))
+unfolding children_of
 inside_multipart bytes n h = rw (← h) refl
 
 pub children_length : (bytes : List ℕ) (n : Node) (k : ℕ) (rs : List Range) → length (children_from bytes n k rs) ≡ length rs
@@ -43,39 +43,39 @@ children_step bytes n i rs r h e =
     let cut : drop i rs ≡ r ∷ drop (i + 1) rs = rw (add-one, drop-cons rs i r h) (ap (λ x. x ∷ drop (suc i) rs) (sym e)) in
     ap (children_from bytes n (i + 1)) cut
 
-pub opened_settle : (bytes : List ℕ) (k : ℕ) (parts : List PartValue) (n : Node) (rest : List Node) → opened bytes (k + 1) parts (n ∷ rest) ≡ opened bytes k (settle bytes parts n rest).parts (settle bytes parts n rest).waiting
-unfolding opened
+pub opened_settle : (bytes : List ℕ) (k : ℕ) (parts : List PartValue) (n : Node) (rest : List Node) → tree_after_steps bytes (k + 1) parts (n ∷ rest) ≡ tree_after_steps bytes k (open_first bytes parts n rest).parts (open_first bytes parts n rest).waiting
+unfolding tree_after_steps
 opened_settle bytes k parts n rest = rw add-one refl
 
-pub opened_none : (bytes : List ℕ) (k : ℕ) (parts : List PartValue) → (opened bytes k parts []).parts ≡ parts
-unfolding opened
+pub opened_none : (bytes : List ℕ) (k : ℕ) (parts : List PartValue) → (tree_after_steps bytes k parts []).parts ≡ parts
+unfolding tree_after_steps
 opened_none bytes zero parts = refl
 opened_none bytes (suc k) parts = refl
 
-pub settle_open : (bytes : List ℕ) (parts : List PartValue) (n : Node) (rest : List Node) → opens_beside bytes (length parts + length rest) n ≡ true → settle bytes parts n rest ≡ record { parts = parts ++ own bytes n; waiting = inside bytes n ++ rest }
-unfolding settle
+pub settle_open : (bytes : List ℕ) (parts : List PartValue) (n : Node) (rest : List Node) → opens_beside bytes (length parts + length rest) n ≡ true → open_first bytes parts n rest ≡ record { parts = parts ++ own_parts bytes n; waiting = children_of bytes n ++ rest }
+unfolding open_first
 settle_open bytes parts n rest h = rw h refl
 
-pub settle_leaf : (bytes : List ℕ) (parts : List PartValue) (n : Node) (rest : List Node) → opens_beside bytes (length parts + length rest) n ≡ false → settle bytes parts n rest ≡ record { parts = parts ++ part_of bytes n (is_raw n.content) ∷ []; waiting = rest }
-unfolding settle
+pub settle_leaf : (bytes : List ℕ) (parts : List PartValue) (n : Node) (rest : List Node) → opens_beside bytes (length parts + length rest) n ≡ false → open_first bytes parts n rest ≡ record { parts = parts ++ part_of bytes n (is_raw n.content) ∷ []; waiting = rest }
+unfolding open_first
 settle_leaf bytes parts n rest h = rw h refl
 
-pub opens_when : (bytes : List ℕ) (others : ℕ) (n : Node) → true ≡ can_open n → others + length (own bytes n) + length (inside bytes n) ≤ 1000 → opens_beside bytes others n ≡ true
+pub opens_when : (bytes : List ℕ) (others : ℕ) (n : Node) → true ≡ can_open n → others + length (own_parts bytes n) + length (children_of bytes n) ≤ 1000 → opens_beside bytes others n ≡ true
 unfolding opens_beside
-opens_when bytes others n h g = rw (← h) (le-leb (others + length (own bytes n) + length (inside bytes n)) 1000 g)
+opens_when bytes others n h g = rw (← h) (le-leb (others + length (own_parts bytes n) + length (children_of bytes n)) 1000 g)
 
 pub opens_not : (bytes : List ℕ) (others : ℕ) (n : Node) → false ≡ can_open n → opens_beside bytes others n ≡ false
 unfolding opens_beside
 opens_not bytes others n h = rw (← h) refl
 
-pub opens_full : (bytes : List ℕ) (others : ℕ) (n : Node) → true ≡ can_open n → 1000 < others + length (own bytes n) + length (inside bytes n) → opens_beside bytes others n ≡ false
+pub opens_full : (bytes : List ℕ) (others : ℕ) (n : Node) → true ≡ can_open n → 1000 < others + length (own_parts bytes n) + length (children_of bytes n) → opens_beside bytes others n ≡ false
 unfolding opens_beside
-opens_full bytes others n h g = rw (← h) (lt-leb (others + length (own bytes n) + length (inside bytes n)) 1000 g)
+opens_full bytes others n h g = rw (← h) (lt-leb (others + length (own_parts bytes n) + length (children_of bytes n)) 1000 g)
 
-pub own_hidden : (bytes : List ℕ) (n : Node) → true ≡ (is_body n.position && is_multipart n.content.mime) → own bytes n ≡ []
+pub own_hidden : (bytes : List ℕ) (n : Node) → true ≡ (is_body n.position && is_multipart n.content.mime) → own_parts bytes n ≡ []
 own_hidden bytes n h = rw (← h) refl
 
-pub own_part : (bytes : List ℕ) (n : Node) → false ≡ (is_body n.position && is_multipart n.content.mime) → own bytes n ≡ part_of bytes n false ∷ []
+pub own_part : (bytes : List ℕ) (n : Node) → false ≡ (is_body n.position && is_multipart n.content.mime) → own_parts bytes n ≡ part_of bytes n false ∷ []
 own_part bytes n h = rw (← h) refl
 
 pub popped : (now : List Node) (n : Node) (was : List Node) → was ≡ now ++ n ∷ [] → reverse was ≡ n ∷ reverse now
@@ -85,18 +85,18 @@ pub all_popped : (bytes : List ℕ) (n : Node) (rest : List Node) → All (IsSou
 all_popped bytes n rest all = (all 0 n (omega arith), λ k d h. all (suc k) d (omega arith))
 
 -- a node as a leaf
-pub leaf_settles : (bytes : List ℕ) (parts now : List PartValue) (n : Node) (waiting : List Node) (others : ℕ) (raw : Bool) (p : PartValue) → others ≡ length parts + length waiting → opens_beside bytes others n ≡ false → raw ≡ is_raw n.content → p ≡ part_of bytes n raw → now ≡ parts ++ p ∷ [] → settle bytes parts n (reverse waiting) ≡ record { parts = now; waiting = reverse waiting }
+pub leaf_settles : (bytes : List ℕ) (parts now : List PartValue) (n : Node) (waiting : List Node) (others : ℕ) (raw : Bool) (p : PartValue) → others ≡ length parts + length waiting → opens_beside bytes others n ≡ false → raw ≡ is_raw n.content → p ≡ part_of bytes n raw → now ≡ parts ++ p ∷ [] → open_first bytes parts n (reverse waiting) ≡ record { parts = now; waiting = reverse waiting }
 leaf_settles bytes parts now n waiting others raw p size h r e f =
     let sizes : length parts + length (reverse waiting) ≡ others = omega (arith, length-reverse waiting) in
     let items : now ≡ parts ++ part_of bytes n (is_raw n.content) ∷ [] = f ∙ ap (λ x. parts ++ x ∷ []) (e ∙ ap (part_of bytes n) r) in
     settle_leaf bytes parts n (reverse waiting) (ap (λ k. opens_beside bytes k n) sizes ∙ h) ∙ ap (λ ps. opened_of ps (reverse waiting)) (sym items)
 
 -- a node with the nodes in it
-pub open_settles : (bytes : List ℕ) (parts now : List PartValue) (n : Node) (waiting back children : List Node) (others : ℕ) → others ≡ length parts + length waiting → opens_beside bytes others n ≡ true → now ≡ parts ++ own bytes n → children ≡ inside bytes n → back ≡ children ++ reverse waiting → settle bytes parts n (reverse waiting) ≡ record { parts = now; waiting = back }
+pub open_settles : (bytes : List ℕ) (parts now : List PartValue) (n : Node) (waiting back children : List Node) (others : ℕ) → others ≡ length parts + length waiting → opens_beside bytes others n ≡ true → now ≡ parts ++ own_parts bytes n → children ≡ children_of bytes n → back ≡ children ++ reverse waiting → open_first bytes parts n (reverse waiting) ≡ record { parts = now; waiting = back }
 open_settles bytes parts now n waiting back children others size h e f g =
     let sizes : length parts + length (reverse waiting) ≡ others = omega (arith, length-reverse waiting) in
     settle_open bytes parts n (reverse waiting) (ap (λ k. opens_beside bytes k n) sizes ∙ h)
-    ∙ ap (λ ps. opened_of ps (inside bytes n ++ reverse waiting)) (sym e)
+    ∙ ap (λ ps. opened_of ps (children_of bytes n ++ reverse waiting)) (sym e)
     ∙ ap (λ ns. opened_of now ns) (sym (g ∙ ap (λ ns. ns ++ reverse waiting) f))
 
 pub all_back : (bytes : List ℕ) (children rest back : List Node) → back ≡ children ++ rest → All (IsSound bytes) children → All (IsSound bytes) rest → All (IsSound bytes) back
@@ -124,31 +124,31 @@ message_is bytes header body content h b c =
     ∙ ap (λ k. message_at k (length bytes) (content_of (codes "text/plain") (header_of (take (length bytes - 0) bytes)).fields)) start
 
 -- the message alone waits
-pub start_stands : (bytes : List ℕ) (parts : List PartValue) (none waiting : List Node) (m : Node) → parts ≡ [] → none ≡ [] → waiting ≡ none ++ m ∷ [] → m ≡ message_of bytes → (opened bytes 2001 parts (reverse waiting)).parts ≡ parts_of bytes
+pub start_stands : (bytes : List ℕ) (parts : List PartValue) (none waiting : List Node) (m : Node) → parts ≡ [] → none ≡ [] → waiting ≡ none ++ m ∷ [] → m ≡ message_of bytes → (tree_after_steps bytes 2001 parts (reverse waiting)).parts ≡ parts_of bytes
 unfolding parts_of
 start_stands bytes parts none waiting m e f g h =
     let items : waiting ≡ message_of bytes ∷ [] = g ∙ ap (λ ns. ns ++ m ∷ []) f ∙ ap (λ x. x ∷ []) h in
-    ap (λ ps. (opened bytes 2001 ps (reverse waiting)).parts) e ∙ ap (λ ws. (opened bytes 2001 [] (reverse ws)).parts) items
+    ap (λ ps. (tree_after_steps bytes 2001 ps (reverse waiting)).parts) e ∙ ap (λ ws. (tree_after_steps bytes 2001 [] (reverse ws)).parts) items
 
-pub step_stands : (bytes : List ℕ) (step : ℕ) (parts now whole : List PartValue) (was rest next : List Node) (n : Node) → step < 2001 → was ≡ n ∷ rest → now ≡ (settle bytes parts n rest).parts → next ≡ (settle bytes parts n rest).waiting → (opened bytes (2001 - step) parts was).parts ≡ whole → (opened bytes (2001 - (step + 1)) now next).parts ≡ whole
+pub step_stands : (bytes : List ℕ) (step : ℕ) (parts now whole : List PartValue) (was rest next : List Node) (n : Node) → step < 2001 → was ≡ n ∷ rest → now ≡ (open_first bytes parts n rest).parts → next ≡ (open_first bytes parts n rest).waiting → (tree_after_steps bytes (2001 - step) parts was).parts ≡ whole → (tree_after_steps bytes (2001 - (step + 1)) now next).parts ≡ whole
 step_stands bytes step parts now whole was rest next n lt e f g s =
     let k = 2001 - (step + 1) in
     let left : 2001 - step ≡ k + 1 = omega arith in
-    ap (λ ps. (opened bytes k ps next).parts) f ∙ ap (λ ns. (opened bytes k (settle bytes parts n rest).parts ns).parts) g
+    ap (λ ps. (tree_after_steps bytes k ps next).parts) f ∙ ap (λ ns. (tree_after_steps bytes k (open_first bytes parts n rest).parts ns).parts) g
     ∙ sym (ap (λ (t : Opened). t.parts) (opened_settle bytes k parts n rest))
-    ∙ ap (λ ns. (opened bytes (k + 1) parts ns).parts) (sym e) ∙ ap (λ j. (opened bytes j parts was).parts) (sym left) ∙ s
+    ∙ ap (λ ns. (tree_after_steps bytes (k + 1) parts ns).parts) (sym e) ∙ ap (λ j. (tree_after_steps bytes j parts was).parts) (sym left) ∙ s
 
-opened_zero : (bytes : List ℕ) (parts : List PartValue) (waiting : List Node) → (opened bytes 0 parts waiting).parts ≡ parts
-unfolding opened
+opened_zero : (bytes : List ℕ) (parts : List PartValue) (waiting : List Node) → (tree_after_steps bytes 0 parts waiting).parts ≡ parts
+unfolding tree_after_steps
 opened_zero bytes parts [] = refl
 opened_zero bytes parts (n ∷ rest) = refl
 
-pub end_stands : (bytes : List ℕ) (step : ℕ) (parts whole : List PartValue) (was : List Node) → 2001 ≤ step → (opened bytes (2001 - step) parts was).parts ≡ whole → parts ≡ whole
+pub end_stands : (bytes : List ℕ) (step : ℕ) (parts whole : List PartValue) (was : List Node) → 2001 ≤ step → (tree_after_steps bytes (2001 - step) parts was).parts ≡ whole → parts ≡ whole
 end_stands bytes step parts whole was h s =
     let left : 2001 - step ≡ 0 = omega arith in
-    sym (opened_zero bytes parts was) ∙ ap (λ j. (opened bytes j parts was).parts) (sym left) ∙ s
+    sym (opened_zero bytes parts was) ∙ ap (λ j. (tree_after_steps bytes j parts was).parts) (sym left) ∙ s
 
-pub none_stands : (bytes : List ℕ) (step : ℕ) (parts whole : List PartValue) (waiting : List Node) → length waiting ≡ 0 → (opened bytes (2001 - step) parts (reverse waiting)).parts ≡ whole → parts ≡ whole
+pub none_stands : (bytes : List ℕ) (step : ℕ) (parts whole : List PartValue) (waiting : List Node) → length waiting ≡ 0 → (tree_after_steps bytes (2001 - step) parts (reverse waiting)).parts ≡ whole → parts ≡ whole
 none_stands bytes step parts whole [] h s = sym (opened_none bytes (2001 - step) parts) ∙ s
 none_stands bytes step parts whole (n ∷ rest) h s = absurd (omega arith)
 
@@ -179,15 +179,15 @@ unfolding children_from node_at
 whole_children bytes n k [] = refl
 whole_children bytes n k (r ∷ rs) = omega (arith, whole_children bytes n (k + 1) rs)
 
-pub opens_size : (bytes : List ℕ) (others : ℕ) (n : Node) → opens_beside bytes others n ≡ true → others + length (own bytes n) + length (inside bytes n) ≤ 1000
+pub opens_size : (bytes : List ℕ) (others : ℕ) (n : Node) → opens_beside bytes others n ≡ true → others + length (own_parts bytes n) + length (children_of bytes n) ≤ 1000
 unfolding opens_beside
-opens_size bytes others n h = leb-true (others + length (own bytes n) + length (inside bytes n)) 1000 ((and_parts (can_open n) _ h).1)
+opens_size bytes others n h = leb-true (others + length (own_parts bytes n) + length (children_of bytes n)) 1000 ((and_parts (can_open n) _ h).1)
 
 -- opening a node makes the work less: twice the parts that may come, and the nodes that may be none
 record Less (bytes : List ℕ) (n : Node) : Type 0 where
-  pub less : 1 + whole_count (inside bytes n) ≤ 2 * length (own bytes n) + cond (is_body n.position) 1 0
+  pub less : 1 + whole_count (children_of bytes n) ≤ 2 * length (own_parts bytes n) + cond (is_body n.position) 1 0
 
-inside_one : (bytes : List ℕ) (n : Node) → false ≡ is_multipart n.content.mime → whole_count (inside bytes n) ≡ 1
+inside_one : (bytes : List ℕ) (n : Node) → false ≡ is_multipart n.content.mime → whole_count (children_of bytes n) ≡ 1
 unfolding node_at
 inside_one bytes n h = ap whole_count (inside_message bytes n h)
 
@@ -195,7 +195,7 @@ one_of : (t : Bool) (p : PartValue) → length (cond t [] (p ∷ [])) ≡ cond t
 one_of true p = refl
 one_of false p = refl
 
-own_of : (bytes : List ℕ) (w m : Bool) (n : Node) → is_body n.position ≡ w → is_multipart n.content.mime ≡ m → length (own bytes n) ≡ cond (w && m) 0 1
+own_of : (bytes : List ℕ) (w m : Bool) (n : Node) → is_body n.position ≡ w → is_multipart n.content.mime ≡ m → length (own_parts bytes n) ≡ cond (w && m) 0 1
 own_of bytes w m n e f =
     ap {B = ℕ} (λ t. length (cond t [] (part_of bytes n false ∷ []))) (ap {B = Bool} (λ x. x && is_multipart n.content.mime) e ∙ ap {B = Bool} (λ y. w && y) f)
     ∙ one_of (w && m) (part_of bytes n false)
@@ -204,7 +204,7 @@ less : (bytes : List ℕ) (n : Node) → Less bytes n
 less bytes n =
     elim (cases_Bool (is_multipart n.content.mime)) [
       | inl parts ↦
-          let none : whole_count (inside bytes n) ≡ 0 = ap whole_count (inside_multipart bytes n (sym parts)) ∙ whole_children bytes n 1 (places (unwrap_or n.content.boundary []) (slice_range bytes n.body n.to)) in
+          let none : whole_count (children_of bytes n) ≡ 0 = ap whole_count (inside_multipart bytes n (sym parts)) ∙ whole_children bytes n 1 (places (unwrap_or n.content.boundary []) (slice_range bytes n.body n.to)) in
           elim (cases_Bool (is_body n.position)) [
             | inl whole ↦ record { less = omega (arith, none, own_of bytes true true n whole parts, ap {B = ℕ} (λ b. cond b 1 0) whole) }
             | inr inner ↦ record { less = omega (arith, none, own_of bytes false true n inner parts, ap {B = ℕ} (λ b. cond b 1 0) inner) }
@@ -217,8 +217,8 @@ less bytes n =
     ]
 
 -- these steps are enough
-pub enough : (bytes : List ℕ) (steps : ℕ) (parts : List PartValue) (waiting : List Node) → length parts + length waiting ≤ 1000 → 2 * (1000 - length parts) + whole_count waiting ≤ steps → (opened bytes steps parts waiting).waiting ≡ []
-unfolding opened
+pub enough : (bytes : List ℕ) (steps : ℕ) (parts : List PartValue) (waiting : List Node) → length parts + length waiting ≤ 1000 → 2 * (1000 - length parts) + whole_count waiting ≤ steps → (tree_after_steps bytes steps parts waiting).waiting ≡ []
+unfolding tree_after_steps
 enough bytes steps parts [] size work = refl
 enough bytes zero parts (n ∷ rest) size work = absurd (omega arith)
 enough bytes (suc steps) parts (n ∷ rest) size work =
@@ -227,13 +227,13 @@ enough bytes (suc steps) parts (n ∷ rest) size work =
           let fits = opens_size bytes (length parts + length rest) n yes' in
           let next = settle_open bytes parts n rest yes' in
           let l = less bytes n in
-          ap (λ (t : Opened). (opened bytes steps t.parts t.waiting).waiting) next
-          ∙ enough bytes steps (parts ++ own bytes n) (inside bytes n ++ rest)
-          (omega (arith, fits, length-append parts (own bytes n), length-append (inside bytes n) rest))
-          (omega (arith, fits, l.less, length-append parts (own bytes n), length-append (inside bytes n) rest, whole_append (inside bytes n) rest))
+          ap (λ (t : Opened). (tree_after_steps bytes steps t.parts t.waiting).waiting) next
+          ∙ enough bytes steps (parts ++ own_parts bytes n) (children_of bytes n ++ rest)
+          (omega (arith, fits, length-append parts (own_parts bytes n), length-append (children_of bytes n) rest))
+          (omega (arith, fits, l.less, length-append parts (own_parts bytes n), length-append (children_of bytes n) rest, whole_append (children_of bytes n) rest))
       | inr no' ↦
           let leaf = part_of bytes n (is_raw n.content) in
-          ap (λ (t : Opened). (opened bytes steps t.parts t.waiting).waiting) (settle_leaf bytes parts n rest no')
+          ap (λ (t : Opened). (tree_after_steps bytes steps t.parts t.waiting).waiting) (settle_leaf bytes parts n rest no')
           ∙ enough bytes steps (parts ++ leaf ∷ []) rest
           (omega (arith, length-append parts (leaf ∷ [])))
           (omega (arith, length-append parts (leaf ∷ [])))

@@ -11,7 +11,7 @@ use Rattle.mime_tree.specs.declared.node.Node.{Node}
 use Rattle.mime_tree.specs.Tree.{PartValue}
 use Rattle.mime_tree.specs.Body.{places}
 use Rattle.mime_tree.specs.Content.{is_multipart}
-use Rattle.mime_tree.specs.Opening.{Opened, node_at, children_from, inside, own, part_of, section_of, prefix_of, is_body, is_raw, opens_beside, opened, parts_of, message_of}
+use Rattle.mime_tree.specs.Opening.{Opened, node_at, children_from, children_of, own_parts, part_of, section_of, prefix_of, is_body, is_raw, opens_beside, tree_after_steps, parts_of, message_of}
 use Rattle.mime_tree.specs.Laws.{HasDistinctSections}
 use Rattle.mime_tree.proofs.OpeningLemmas.{inside_message, inside_multipart, own_hidden, own_part, settle_open, settle_leaf}
 
@@ -153,7 +153,7 @@ children_separate bytes n k (r ∷ rs) = (sibling_apart bytes n k (k + 1) rs (om
 
 -- what an opened node gives way to
 abbrev opened_claims : List ℕ → Node → List Claim
-opened_claims bytes n = map claim_of (own bytes n) ++ map node_claim (inside bytes n)
+opened_claims bytes n = map claim_of (own_parts bytes n) ++ map node_claim (children_of bytes n)
 
 record Gives (x : Claim) (ys : List Claim) : Type 0 where
   each : EachWithin x ys
@@ -166,8 +166,8 @@ child_section : (p : Position) → is_body p ≡ false → section_of p ≡ pref
 child_section (Body message) h = absurd cc
 child_section (Child section) h = refl
 
-one_and : (bytes : List ℕ) (n : Node) (ys : List Claim) → false ≡ (is_body n.position && is_multipart n.content.mime) → ys ≡ map node_claim (inside bytes n) → at (section_of n.position) ∷ ys ≡ opened_claims bytes n
-one_and bytes n ys h e = ap (λ cs. at (section_of n.position) ∷ cs) e ∙ ap (λ ps. map claim_of ps ++ map node_claim (inside bytes n)) (sym (own_part bytes n h))
+one_and : (bytes : List ℕ) (n : Node) (ys : List Claim) → false ≡ (is_body n.position && is_multipart n.content.mime) → ys ≡ map node_claim (children_of bytes n) → at (section_of n.position) ∷ ys ≡ opened_claims bytes n
+one_and bytes n ys h e = ap (λ cs. at (section_of n.position) ∷ cs) e ∙ ap (λ ps. map claim_of ps ++ map node_claim (children_of bytes n)) (sym (own_part bytes n h))
 
 gives_message : (bytes : List ℕ) (n : Node) → is_multipart n.content.mime ≡ false → Gives (node_claim n) (opened_claims bytes n)
 unfolding node_at
@@ -180,12 +180,12 @@ gives_message bytes n h =
 gives_multipart : (bytes : List ℕ) (n : Node) → is_multipart n.content.mime ≡ true → Gives (node_claim n) (opened_claims bytes n)
 gives_multipart bytes n h =
     let rs = places (unwrap_or n.content.boundary []) (slice_range bytes n.body n.to) in
-    let children : child_claims bytes n 1 rs ≡ map node_claim (inside bytes n) = sym (ap (map node_claim) (inside_multipart bytes n (sym h))) in
+    let children : child_claims bytes n 1 rs ≡ map node_claim (children_of bytes n) = sym (ap (map node_claim) (inside_multipart bytes n (sym h))) in
     elim (cases_Bool (is_body n.position)) [
       | inl whole ↦
           let hidden : (is_body n.position && is_multipart n.content.mime) ≡ true = and_from (is_body n.position) (is_multipart n.content.mime) whole h in
           gives_moved (node_claim n) (child_claims bytes n 1 rs) (opened_claims bytes n)
-          (children ∙ ap (λ ps. map claim_of ps ++ map node_claim (inside bytes n)) (sym (own_hidden bytes n (sym hidden))))
+          (children ∙ ap (λ ps. map claim_of ps ++ map node_claim (children_of bytes n)) (sym (own_hidden bytes n (sym hidden))))
           (record { each = children_within bytes n 1 rs; separate = children_separate bytes n 1 rs })
       | inr child ↦
           let hidden : (is_body n.position && is_multipart n.content.mime) ≡ false = and_left (is_body n.position) (is_multipart n.content.mime) child in
@@ -205,20 +205,20 @@ separate_front : (cs ds : List Claim) → Separate (cs ++ ds) → Separate cs
 separate_front [] ds h = tt
 separate_front (c ∷ cs) ds h = (apart_front c cs ds h.0, separate_front cs ds h.1)
 
-opened_regroups : (bytes : List ℕ) (parts : List PartValue) (n : Node) (rest : List Node) → map claim_of parts ++ (opened_claims bytes n ++ map node_claim rest) ≡ claims (parts ++ own bytes n) (inside bytes n ++ rest)
+opened_regroups : (bytes : List ℕ) (parts : List PartValue) (n : Node) (rest : List Node) → map claim_of parts ++ (opened_claims bytes n ++ map node_claim rest) ≡ claims (parts ++ own_parts bytes n) (children_of bytes n ++ rest)
 opened_regroups bytes parts n rest =
-    ap (λ cs. map claim_of parts ++ cs) (append_assoc (map claim_of (own bytes n)) (map node_claim (inside bytes n)) (map node_claim rest))
-    ∙ ap (λ cs. map claim_of parts ++ (map claim_of (own bytes n) ++ cs)) (sym (map-append node_claim (inside bytes n) rest))
-    ∙ sym (append_assoc (map claim_of parts) (map claim_of (own bytes n)) (map node_claim (inside bytes n ++ rest)))
-    ∙ ap (λ cs. cs ++ map node_claim (inside bytes n ++ rest)) (sym (map-append claim_of parts (own bytes n)))
+    ap (λ cs. map claim_of parts ++ cs) (append_assoc (map claim_of (own_parts bytes n)) (map node_claim (children_of bytes n)) (map node_claim rest))
+    ∙ ap (λ cs. map claim_of parts ++ (map claim_of (own_parts bytes n) ++ cs)) (sym (map-append node_claim (children_of bytes n) rest))
+    ∙ sym (append_assoc (map claim_of parts) (map claim_of (own_parts bytes n)) (map node_claim (children_of bytes n ++ rest)))
+    ∙ ap (λ cs. cs ++ map node_claim (children_of bytes n ++ rest)) (sym (map-append claim_of parts (own_parts bytes n)))
 
 leaf_regroups : (parts : List PartValue) (p : PartValue) (rest : List Node) → map claim_of parts ++ ((claim_of p ∷ []) ++ map node_claim rest) ≡ claims (parts ++ p ∷ []) rest
 leaf_regroups parts p rest =
     sym (append_assoc (map claim_of parts) (claim_of p ∷ []) (map node_claim rest))
     ∙ ap (λ cs. cs ++ map node_claim rest) (sym (map-append claim_of parts (p ∷ [])))
 
-separate_opened : (bytes : List ℕ) (steps : ℕ) (parts : List PartValue) (waiting : List Node) → Separate (claims parts waiting) → Separate (map claim_of (opened bytes steps parts waiting).parts)
-unfolding opened
+separate_opened : (bytes : List ℕ) (steps : ℕ) (parts : List PartValue) (waiting : List Node) → Separate (claims parts waiting) → Separate (map claim_of (tree_after_steps bytes steps parts waiting).parts)
+unfolding tree_after_steps
 separate_opened bytes steps parts [] h = separate_front (map claim_of parts) [] h
 separate_opened bytes zero parts (n ∷ rest) h = separate_front (map claim_of parts) (map node_claim (n ∷ rest)) h
 separate_opened bytes (suc steps) parts (n ∷ rest) h =
@@ -226,12 +226,12 @@ separate_opened bytes (suc steps) parts (n ∷ rest) h =
       | inl yes' ↦
           let g = gives bytes n in
           let next = replaced (node_claim n) (map claim_of parts) (opened_claims bytes n) (map node_claim rest) g.each g.separate h in
-          subst (λ (t : Opened). Separate (map claim_of (opened bytes steps t.parts t.waiting).parts)) (sym (settle_open bytes parts n rest yes'))
-          (separate_opened bytes steps (parts ++ own bytes n) (inside bytes n ++ rest) (subst (λ (cs : List Claim). Separate cs) (opened_regroups bytes parts n rest) next))
+          subst (λ (t : Opened). Separate (map claim_of (tree_after_steps bytes steps t.parts t.waiting).parts)) (sym (settle_open bytes parts n rest yes'))
+          (separate_opened bytes steps (parts ++ own_parts bytes n) (children_of bytes n ++ rest) (subst (λ (cs : List Claim). Separate cs) (opened_regroups bytes parts n rest) next))
       | inr no' ↦
           let leaf = part_of bytes n (is_raw n.content) in
           let next = replaced (node_claim n) (map claim_of parts) (claim_of leaf ∷ []) (map node_claim rest) (within_section n.position, tt) (tt, tt) h in
-          subst (λ (t : Opened). Separate (map claim_of (opened bytes steps t.parts t.waiting).parts)) (sym (settle_leaf bytes parts n rest no'))
+          subst (λ (t : Opened). Separate (map claim_of (tree_after_steps bytes steps t.parts t.waiting).parts)) (sym (settle_leaf bytes parts n rest no'))
           (separate_opened bytes steps (parts ++ leaf ∷ []) rest (subst (λ (cs : List Claim). Separate cs) (leaf_regroups parts leaf rest) next))
     ]
 
@@ -251,4 +251,4 @@ distinct (p ∷ parts) (suc i) (suc j) d lt h s e = distinct parts i j d (omega 
 
 pub sections_distinct : (bytes : List ℕ) → HasDistinctSections (parts_of bytes)
 unfolding parts_of
-sections_distinct bytes = λ i j d lt h. distinct (opened bytes 2001 [] (message_of bytes ∷ [])).parts i j d lt h (separate_opened bytes 2001 [] (message_of bytes ∷ []) (tt, tt))
+sections_distinct bytes = λ i j d lt h. distinct (tree_after_steps bytes 2001 [] (message_of bytes ∷ [])).parts i j d lt h (separate_opened bytes 2001 [] (message_of bytes ∷ []) (tt, tt))

@@ -6,7 +6,7 @@ use Rattle.std.proofs.lemmas.Bool.{cases_Bool, cases_lt, le-leb, leb-true}
 use Rattle.std.proofs.lemmas.Slice.Eq.{bytes_eq-Decides}
 use Rattle.std.proofs.lemmas.List.{length-take-le}
 use Rattle.mime_tree.specs.Tree.{PartValue, TreeValue}
-use Rattle.mime_tree.specs.Best.{counts, counts_in, taken_in, given, is_alternative_at}
+use Rattle.mime_tree.specs.Best.{counts, counts_in, taken_in, leaf_to_show, is_alternative_at}
 use Rattle.mime_tree.specs.Laws.{ChoosesChild, IsLeafToShow, GivesLeafToShow}
 
 record Has (found : Option PartValue) : Type 0 where
@@ -70,8 +70,8 @@ long_section a b h =
       | inr ge ↦ (let e : leb a b ≡ true = le-leb a b ge in absurd (cc))
     ]
 
-shown_in : (depth : ℕ) (t : TreeValue) (s : List ℕ) (p : PartValue) → given depth t s ≡ Some p → IsShownIn t s p
-unfolding given
+shown_in : (depth : ℕ) (t : TreeValue) (s : List ℕ) (p : PartValue) → leaf_to_show depth t s ≡ Some p → IsShownIn t s p
+unfolding leaf_to_show
 shown_in zero t s p e = absurd (cc)
 shown_in (suc depth) t s p e =
     elim (cases_leaf (taken_in t s)) [
@@ -79,11 +79,11 @@ shown_in (suc depth) t s p e =
           let q = has.leaf in
           let leaf = leaf_in s q (taken_counts t s q has.is) in
           let next = take (length s + 1) q.section in
-          let f : cond (leb (length q.section) (length s + 1)) (Some q) (given depth t next) ≡ Some p =
-          sym (ap (option_and_then (λ (x : PartValue). cond (leb (length x.section) (length s + 1)) (Some x) (given depth t (take (length s + 1) x.section)))) has.is) ∙ e in
+          let f : cond (leb (length q.section) (length s + 1)) (Some q) (leaf_to_show depth t next) ≡ Some p =
+          sym (ap (option_and_then (λ (x : PartValue). cond (leb (length x.section) (length s + 1)) (Some x) (leaf_to_show depth t (take (length s + 1) x.section)))) has.is) ∙ e in
           elim (cases_Bool (leb (length q.section) (length s + 1))) [
             | inl short ↦
-                let same : q ≡ p = (let g : Some q ≡ Some p = sym (ap (λ b. cond b (Some q) (given depth t next)) short) ∙ f in cc) in
+                let same : q ≡ p = (let g : Some q ≡ Some p = sym (ap (λ b. cond b (Some q) (leaf_to_show depth t next)) short) ∙ f in cc) in
                 let le : length q.section ≤ length s + 1 = leb-true (length q.section) (length s + 1) short in
                 subst (λ (x : PartValue). IsShownIn t s x) same (record {
                   leaf = leaf;
@@ -91,7 +91,7 @@ shown_in (suc depth) t s p e =
                 })
             | inr long ↦
                 let more : length s + 1 < length q.section = long_section (length q.section) (length s + 1) long in
-                let g : given depth t next ≡ Some p = sym (ap (λ b. cond b (Some q) (given depth t next)) long) ∙ f in
+                let g : leaf_to_show depth t next ≡ Some p = sym (ap (λ b. cond b (Some q) (leaf_to_show depth t next)) long) ∙ f in
                 let inner = shown_in depth t next p g in
                 let size : length next ≡ length s + 1 = length-take-le (length s + 1) q.section (omega arith) in
                 let child : next ≡ take (length s + 1) p.section = inner.leaf.front ∙ ap (λ n. take n p.section) size in
@@ -106,14 +106,14 @@ shown_in (suc depth) t s p e =
                 }
           ]
       | inr none ↦
-          (let f = sym (ap (option_and_then (λ (x : PartValue). cond (leb (length x.section) (length s + 1)) (Some x) (given depth t (take (length s + 1) x.section)))) none) ∙ e in absurd (cc))
+          (let f = sym (ap (option_and_then (λ (x : PartValue). cond (leb (length x.section) (length s + 1)) (Some x) (leaf_to_show depth t (take (length s + 1) x.section)))) none) ∙ e in absurd (cc))
     ]
 
-some_shown : (t : TreeValue) (found : Option PartValue) → given 40 t [] ≡ found → IfSome found (IsLeafToShow t)
+some_shown : (t : TreeValue) (found : Option PartValue) → leaf_to_show 40 t [] ≡ found → IfSome found (IsLeafToShow t)
 some_shown t None e = tt
 some_shown t (Some p) e =
     let is = shown_in 40 t [] p e in
     record { may_be_shown = is.leaf.may_be_shown; chosen = λ k below. is.chosen k (omega arith) below }
 
 pub gives_leaf_to_show : (t : TreeValue) → GivesLeafToShow t
-gives_leaf_to_show t = some_shown t (given 40 t []) refl
+gives_leaf_to_show t = some_shown t (leaf_to_show 40 t []) refl

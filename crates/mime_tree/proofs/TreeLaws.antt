@@ -6,23 +6,23 @@ use Rattle.std.proofs.lemmas.List.Elements.{All-push, All-nil}
 use Rattle.std.specs.Prelude.{All}
 use Rattle.mime_tree.specs.declared.node.Node.{Node}
 use Rattle.mime_tree.specs.Tree.{PartValue}
-use Rattle.mime_tree.specs.Opening.{Opened, node_at, inside, own, part_of, is_raw, opens_beside, opened, parts_of, message_of, IsSound, IsPlaced}
+use Rattle.mime_tree.specs.Opening.{Opened, node_at, children_of, own_parts, part_of, is_raw, opens_beside, tree_after_steps, parts_of, message_of, IsSound, IsPlaced}
 use Rattle.mime_tree.specs.Laws.{NothingWaits}
 use Rattle.mime_tree.proofs.OpeningLemmas.{enough, opens_size, settle_open, settle_leaf}
 
-opened_few : (bytes : List ℕ) (steps : ℕ) (parts : List PartValue) (waiting : List Node) → length parts + length waiting ≤ 1000 → length (opened bytes steps parts waiting).parts ≤ 1000
-unfolding opened
+opened_few : (bytes : List ℕ) (steps : ℕ) (parts : List PartValue) (waiting : List Node) → length parts + length waiting ≤ 1000 → length (tree_after_steps bytes steps parts waiting).parts ≤ 1000
+unfolding tree_after_steps
 opened_few bytes steps parts [] size = omega arith
 opened_few bytes zero parts (n ∷ rest) size = omega arith
 opened_few bytes (suc steps) parts (n ∷ rest) size =
     elim (cases_Bool (opens_beside bytes (length parts + length rest) n)) [
       | inl yes' ↦
           let fits = opens_size bytes (length parts + length rest) n yes' in
-          subst (λ (t : Opened). length (opened bytes steps t.parts t.waiting).parts ≤ 1000) (sym (settle_open bytes parts n rest yes'))
-          (opened_few bytes steps (parts ++ own bytes n) (inside bytes n ++ rest) (omega (arith, fits, length-append parts (own bytes n), length-append (inside bytes n) rest)))
+          subst (λ (t : Opened). length (tree_after_steps bytes steps t.parts t.waiting).parts ≤ 1000) (sym (settle_open bytes parts n rest yes'))
+          (opened_few bytes steps (parts ++ own_parts bytes n) (children_of bytes n ++ rest) (omega (arith, fits, length-append parts (own_parts bytes n), length-append (children_of bytes n) rest)))
       | inr no' ↦
           let leaf = part_of bytes n (is_raw n.content) in
-          subst (λ (t : Opened). length (opened bytes steps t.parts t.waiting).parts ≤ 1000) (sym (settle_leaf bytes parts n rest no'))
+          subst (λ (t : Opened). length (tree_after_steps bytes steps t.parts t.waiting).parts ≤ 1000) (sym (settle_leaf bytes parts n rest no'))
           (opened_few bytes steps (parts ++ leaf ∷ []) rest (omega (arith, length-append parts (leaf ∷ []))))
     ]
 

@@ -41,10 +41,10 @@ taken_in t section =
     if is_alternative_at t section then find (counts_in section) (reverse t.parts) else find (counts_in section) t.parts
 
 -- the leaf of the multipart of a section: the chosen leaf if that is its child, and else the leaf of the chosen child
-unfoldable pub given : ℕ → TreeValue → List ℕ → Option PartValue
-given zero t section = None
-given (suc depth) t section = option_and_then (λ (p : PartValue).
-    if nat_le (length p.section) (length section + 1) then Some p else given depth t (take (length section + 1) p.section)) (taken_in t section)
+unfoldable pub leaf_to_show : ℕ → TreeValue → List ℕ → Option PartValue
+leaf_to_show zero t section = None
+leaf_to_show (suc depth) t section = option_and_then (λ (p : PartValue).
+    if nat_le (length p.section) (length section + 1) then Some p else leaf_to_show depth t (take (length section + 1) p.section)) (taken_in t section)
 
 -- a leaf as it is shown
 abbrev pub shown_as : PartValue → Shown
@@ -61,4 +61,4 @@ shown_of None other = shown_else other
 -- the part to show: the leaf of the outermost multipart, else the first text or page of an unread charset. A section has at most
 -- 40 numbers, so at most 40 multiparts are in one another
 unfoldable pub best_of : TreeValue → Shown
-best_of t = shown_of (given 40 t []) (find is_text t.parts)
+best_of t = shown_of (leaf_to_show 40 t []) (find is_text t.parts)

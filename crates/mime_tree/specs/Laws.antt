@@ -6,12 +6,12 @@ use Rattle.mime_tree.specs.declared.node.Node.{Node}
 use Rattle.mime_tree.specs.Body.{is_delimiter_line}
 use Rattle.mime_tree.specs.Content.{is_multipart}
 use Rattle.mime_tree.specs.Tree.{PartValue, TreeValue}
-use Rattle.mime_tree.specs.Best.{counts, taken_in, given}
-use Rattle.mime_tree.specs.Opening.{inside, opened, message_of, parts_of, own, part_of, is_raw, opens_beside}
+use Rattle.mime_tree.specs.Best.{counts, taken_in, leaf_to_show}
+use Rattle.mime_tree.specs.Opening.{children_of, tree_after_steps, message_of, parts_of, own_parts, part_of, is_raw, opens_beside}
 
 -- nothing waits unopened after the steps of the definition
 abbrev pub NothingWaits : List ℕ → Type 0
-NothingWaits bytes = (opened bytes 2001 [] (message_of bytes ∷ [])).waiting ≡ []
+NothingWaits bytes = (tree_after_steps bytes 2001 [] (message_of bytes ∷ [])).waiting ≡ []
 
 -- no two parts have one section
 abbrev pub HasDistinctSections : List PartValue → Type 0
@@ -28,8 +28,8 @@ pub record HasPlace (bytes : List ℕ) (n : Node) : Type 0 where
 
 -- the nodes in a node, however deep
 pub data IsInside (bytes : List ℕ) (n : Node) : Node → Type 0 where
-  direct : (c : Node) → Contains (inside bytes n) c → IsInside bytes n c
-  deeper : (m c : Node) → IsInside bytes n m → Contains (inside bytes m) c → IsInside bytes n c
+  direct : (c : Node) → Contains (children_of bytes n) c → IsInside bytes n c
+  deeper : (m c : Node) → IsInside bytes n m → Contains (children_of bytes m) c → IsInside bytes n c
 
 -- no line of a part is a delimiter line of a multipart around it
 abbrev pub OuterLinesEndParts : List ℕ → Type 0
@@ -39,7 +39,7 @@ OuterLinesEndParts bytes = (n c : Node) → HasPlace bytes n → is_multipart n.
 -- at most 1,000 parts then, each node that still waits counted as one part; else it is a leaf.
 pub data OpensTo (bytes : List ℕ) : List PartValue → List Node → List PartValue → Type 0 where
   all_open : (parts : List PartValue) → OpensTo bytes parts [] parts
-  opens_first : (parts : List PartValue) (n : Node) (rest : List Node) (tree : List PartValue) → opens_beside bytes (length parts + length rest) n ≡ true → OpensTo bytes (parts ++ own bytes n) (inside bytes n ++ rest) tree → OpensTo bytes parts (n ∷ rest) tree
+  opens_first : (parts : List PartValue) (n : Node) (rest : List Node) (tree : List PartValue) → opens_beside bytes (length parts + length rest) n ≡ true → OpensTo bytes (parts ++ own_parts bytes n) (children_of bytes n ++ rest) tree → OpensTo bytes parts (n ∷ rest) tree
   leaf_first : (parts : List PartValue) (n : Node) (rest : List Node) (tree : List PartValue) → opens_beside bytes (length parts + length rest) n ≡ false → OpensTo bytes (parts ++ part_of bytes n (is_raw n.content) ∷ []) rest tree → OpensTo bytes parts (n ∷ rest) tree
 
 -- the tree of a message is what its nodes open to
@@ -59,4 +59,4 @@ pub record IsLeafToShow (t : TreeValue) (p : PartValue) : Type 0 where
   pub chosen : (k : ℕ) → k < length p.section → ChoosesChild t (take k p.section) p
 
 abbrev pub GivesLeafToShow : TreeValue → Type 0
-GivesLeafToShow t = IfSome (given 40 t []) (IsLeafToShow t)
+GivesLeafToShow t = IfSome (leaf_to_show 40 t []) (IsLeafToShow t)

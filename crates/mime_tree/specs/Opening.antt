@@ -41,8 +41,8 @@ children_from bytes n number (r ∷ more) =
     ∷ children_from bytes n (number + 1) more
 
 -- the nodes in a multipart or a message: a message's one child is its body
-unfoldable pub inside : List ℕ → Node → List Node
-inside bytes n =
+unfoldable pub children_of : List ℕ → Node → List Node
+children_of bytes n =
     if is_multipart n.content.mime then children_from bytes n 1 (places (unwrap_or n.content.boundary []) (slice_range bytes n.body n.to))
     else node_at bytes (codes "text/plain") (Body (Some (section_of n.position))) (n.around + 1) true n.body n.to ∷ []
 
@@ -79,8 +79,8 @@ abbrev pub part_of : List ℕ → Node → Bool → PartValue
 part_of bytes n raw = part_value (section_of n.position) n.enclosed raw n.content n.body (slice_range bytes n.body n.to)
 
 -- the multipart that is the whole body of a message is no part
-abbrev pub own : List ℕ → Node → List PartValue
-own bytes n = if is_body n.position && is_multipart n.content.mime then [] else part_of bytes n false ∷ []
+abbrev pub own_parts : List ℕ → Node → List PartValue
+own_parts bytes n = if is_body n.position && is_multipart n.content.mime then [] else part_of bytes n false ∷ []
 
 -- the tree while it is opened: the parts that are settled, and after them those that aren't
 pub record Opened : Type 0 where
@@ -89,21 +89,21 @@ pub record Opened : Type 0 where
 
 -- whether a node is opened beside `others` other parts: with its children counted as leaves the tree then has at most 1,000
 unfoldable pub opens_beside : List ℕ → ℕ → Node → Bool
-opens_beside bytes others n = can_open n && nat_le (others + length (own bytes n) + length (inside bytes n)) 1000
+opens_beside bytes others n = can_open n && nat_le (others + length (own_parts bytes n) + length (children_of bytes n)) 1000
 
 -- the tree after the first node that waits is opened, or is a leaf
-unfoldable pub settle : List ℕ → List PartValue → Node → List Node → Opened
-settle bytes parts n rest =
+unfoldable pub open_first : List ℕ → List PartValue → Node → List Node → Opened
+open_first bytes parts n rest =
     if opens_beside bytes (length parts + length rest) n
-    then record { parts = parts ++ own bytes n; waiting = inside bytes n ++ rest }
+    then record { parts = parts ++ own_parts bytes n; waiting = children_of bytes n ++ rest }
     else record { parts = parts ++ part_of bytes n (is_raw n.content) ∷ []; waiting = rest }
 
 -- the tree after `steps` steps
-unfoldable pub opened : List ℕ → ℕ → List PartValue → List Node → Opened
-opened bytes steps parts [] = record { parts = parts; waiting = [] }
-opened bytes zero parts (n ∷ rest) = record { parts = parts; waiting = n ∷ rest }
-opened bytes (suc steps) parts (n ∷ rest) =
-    let t = settle bytes parts n rest in opened bytes steps t.parts t.waiting
+unfoldable pub tree_after_steps : List ℕ → ℕ → List PartValue → List Node → Opened
+tree_after_steps bytes steps parts [] = record { parts = parts; waiting = [] }
+tree_after_steps bytes zero parts (n ∷ rest) = record { parts = parts; waiting = n ∷ rest }
+tree_after_steps bytes (suc steps) parts (n ∷ rest) =
+    let t = open_first bytes parts n rest in tree_after_steps bytes steps t.parts t.waiting
 
 -- the node of the message itself
 unfoldable pub message_of : List ℕ → Node
@@ -111,7 +111,7 @@ message_of bytes = node_at bytes (codes "text/plain") (Body None) 0 false 0 (len
 
 -- the parts of a message: after 2,001 steps none waits
 unfoldable pub parts_of : List ℕ → List PartValue
-parts_of bytes = (opened bytes 2001 [] (message_of bytes ∷ [])).parts
+parts_of bytes = (tree_after_steps bytes 2001 [] (message_of bytes ∷ [])).parts
 
 unfoldable pub tree_of : List ℕ → TreeValue
 tree_of bytes = record { header = header_of bytes; alternative = is_alternative (message_of bytes).content.mime; parts = parts_of bytes }

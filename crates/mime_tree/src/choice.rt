@@ -1,7 +1,7 @@
 //! Finds the part of a section, and the part to show.
 ghost use Rattle.std.specs.Prelude.{◌≡◌, ◌++◌, ◌∷◌, [], ◌≤◌, length, reverse, find};
 ghost use Rattle.std.specs.Option.{option_copied};
-ghost use Rattle.mime_tree.specs.Best.{part_at, has_section, is_html, is_text, counts, counts_in, is_alternative_at, taken_in, given, shown_as, best_of};
+ghost use Rattle.mime_tree.specs.Best.{part_at, has_section, is_html, is_text, counts, counts_in, is_alternative_at, taken_in, leaf_to_show, shown_as, best_of};
 
 use crate::parts::{Part, Tree};
 use mail_values::Section;
@@ -51,7 +51,7 @@ fn has_numbers(part: &Part<'_>, numbers: &[u16]) -> bool
 pub fn best(tree: &Tree<'_>) -> Shown
     ensures { result ≡ best_of tree.now }
 {
-    if let Some(part) = given(tree) {
+    if let Some(part) = leaf_to_show(tree) {
         return shown_as(part);
     }
     match first_text(tree) {
@@ -68,8 +68,8 @@ fn first_text<'t, 'a>(tree: &'t Tree<'a>) -> Option<&'t Part<'a>>
 }
 
 /// Returns the leaf to show, one multipart after the other from the outermost in.
-fn given<'t, 'a>(tree: &'t Tree<'a>) -> Option<&'t Part<'a>>
-    ensures { option_copied result ≡ given 40 tree.now [] }
+fn leaf_to_show<'t, 'a>(tree: &'t Tree<'a>) -> Option<&'t Part<'a>>
+    ensures { option_copied result ≡ leaf_to_show 40 tree.now [] }
 {
     let mut around: &[u16] = &[];
     for _step in 0..DEPTH {

@@ -5,7 +5,7 @@ ghost use Rattle.mail_values.specs.Section.{numbers_of};
 ghost use Rattle.mime_tree.specs.Body.{IsWithin};
 ghost use Rattle.mime_tree.specs.Content.{is_multipart, is_message, is_alternative, default_in};
 ghost use Rattle.mime_tree.specs.Tree.{PartValue};
-ghost use Rattle.mime_tree.specs.Opening.{node_at, inside, can_open, section_of, prefix_of, is_body, part_of, own, parts_of, message_of, settle, opens_beside, children_from, is_raw, IsSound, IsPlaced};
+ghost use Rattle.mime_tree.specs.Opening.{node_at, children_of, can_open, section_of, prefix_of, is_body, part_of, own_parts, parts_of, message_of, open_first, opens_beside, children_from, is_raw, IsSound, IsPlaced};
 ghost use Rattle.mime_tree.specs.declared.node.Position.TheVariants.{Body, Child};
 
 use crate::body::{Range, places_within};
@@ -78,8 +78,8 @@ fn settle_next<'a>(
     requires sound { IsSound bytes.now next }
     requires all { All (IsSound bytes.now) (reverse waiting.old.items) }
     requires placed { All (IsPlaced bytes.now) found.old.items }
-    ensures parts { OnOk result (found.new.items ≡ (settle bytes.now found.old.items next (reverse waiting.old.items)).parts) }
-    ensures waiting { OnOk result (reverse waiting.new.items ≡ (settle bytes.now found.old.items next (reverse waiting.old.items)).waiting) }
+    ensures parts { OnOk result (found.new.items ≡ (open_first bytes.now found.old.items next (reverse waiting.old.items)).parts) }
+    ensures waiting { OnOk result (reverse waiting.new.items ≡ (open_first bytes.now found.old.items next (reverse waiting.old.items)).waiting) }
     ensures all { OnOk result (All (IsSound bytes.now) (reverse waiting.new.items)) }
     ensures placed { OnOk result (All (IsPlaced bytes.now) found.new.items) }
 {
@@ -103,8 +103,8 @@ fn inside_opened(
     node: &Node,
 ) -> Result<Option<Vec<Node>>, AllocError>
     requires sound { IsSound bytes.now node.now }
-    ensures equals { IfOk result (λ found. IfSome found (λ v. v.items ≡ inside bytes.now node.now)) }
-    ensures opened { IfOk result (λ found. IfSome found (λ _. opens_beside bytes.now others node.now ≡ true)) }
+    ensures equals { IfOk result (λ found. IfSome found (λ v. v.items ≡ children_of bytes.now node.now)) }
+    ensures opens { IfOk result (λ found. IfSome found (λ _. opens_beside bytes.now others node.now ≡ true)) }
     ensures all { IfOk result (λ found. IfSome found (λ v. All (IsSound bytes.now) v.items)) }
     ensures none { IfOk result (λ found. IfNone found (opens_beside bytes.now others node.now ≡ false)) }
 {
@@ -124,7 +124,7 @@ fn inside_opened(
 /// Returns how many parts the node itself is: none if it is the multipart that is the whole body of a message.
 fn own_count(bytes: &[u8], node: &Node) -> usize
     ensures few { result ≤ 1 }
-    ensures equals { result ≡ length (own bytes.now node.now) }
+    ensures equals { result ≡ length (own_parts bytes.now node.now) }
 {
     if is_hidden(node) { 0 } else { 1 }
 }
@@ -149,10 +149,10 @@ fn inside_within(
     requires depth { node.now.around ≤ 32 }
     requires sound { IsSound bytes.now node.now }
     requires few { most ≤ 1000 }
-    ensures all { IfOk result (λ found. IfSome found (λ v. v.items ≡ inside bytes.now node.now)) }
+    ensures all { IfOk result (λ found. IfSome found (λ v. v.items ≡ children_of bytes.now node.now)) }
     ensures few { IfOk result (λ found. IfSome found (λ v. length v.items ≤ most)) }
     ensures sound { IfOk result (λ found. IfSome found (λ v. All (IsSound bytes.now) v.items)) }
-    ensures many { IfOk result (λ found. IfNone found (most < length (inside bytes.now node.now))) }
+    ensures many { IfOk result (λ found. IfNone found (most < length (children_of bytes.now node.now))) }
 {
     if !is_multipart(&node.content) {
         if most == 0 {

@@ -10,8 +10,8 @@ returns-in_default-clause-none c =
     let many = rw c.in_default.is at c.in_ok-nodes.ensures.many in
     opens_full c.args.bytes.now c.args.others c.args.node.now c.if-not-opens.ensures.equals (omega (arith, many, c.own_count-own.ensures.equals, c.own_count-own.ensures.few))
 
-pub returns-clause-opened : goal.returns-clause-opened
-returns-clause-opened c =
+pub returns-clause-opens : goal.returns-clause-opens
+returns-clause-opens c =
     let few = rw c.in-Some.is at c.in_ok-nodes.ensures.few in
     let all = rw c.in-Some.is at c.in_ok-nodes.ensures.all in
     opens_when c.args.bytes.now c.args.others c.args.node.now c.if-not-opens.ensures.equals (omega (arith, few, ap length all, c.own_count-own.ensures.equals, c.own_count-own.ensures.few))

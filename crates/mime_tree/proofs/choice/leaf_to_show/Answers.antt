@@ -2,7 +2,7 @@ use Rattle.std.proofs.Common.{◌+◌, ◌∙◌, ap, arith, length}
 use Rattle.std.proofs.lemmas.List.{length-take-le}
 use Rattle.std.specs.Option.{option_copied}
 use Rattle.mime_tree.proofs.BestLemmas.{given_here, given_inside, given_none, given_end}
-use Rattle.mime_tree.proofs.choice.given.Goals as goal
+use Rattle.mime_tree.proofs.choice.leaf_to_show.Goals as goal
 
 pub returns-in_err-taken : goal.returns-in_err-taken
 returns-in_err-taken c = ap option_copied c.from_residual.ensures ∙ given_none c.args.tree.now c.loop-step.around.now c.loop-step._step _ c.loop-step-test.true c.in_err-taken.ensures c.loop-step.invariant.leaf
