@@ -4,16 +4,16 @@ use Rattle.std.specs.Prelude.{not}
 use Rattle.std.specs.List.{position_or_len}
 use Rattle.std.specs.Str.Lines.{lines}
 use Rattle.std.proofs.lemmas.Bool.{cases_lt, cases_Bool, eqb-true}
-use Rattle.std.proofs.lemmas.List.{append-nil, drop-drop, get_or-drop, get_or-take, length-take-le, drop-take, get_or_append_left, take_rest}
+use Rattle.std.proofs.lemmas.List.{append-nil, drop-drop, get_or-drop, get_or-take, length-take-le, drop-take, get_or_append_left, take_rest, map-append}
 use Rattle.std.proofs.Math.Seq.{get_or-append_seam}
 use Rattle.std.proofs.lemmas.List.Sums.{take_while-cons, passes_at_first}
 use Rattle.std.proofs.lemmas.List.Elements.{filter-append}
 use Rattle.mail_values.proofs.Prefixes.{take_further}
 use Rattle.header_words.specs.Lines.{is_newline, first_text, first_size, header_lines, body_of}
 use Rattle.header_words.specs.Fields.{FieldValue, Header, name_of, value_of, field_of, fields_of, own_lines, begins_field, is_continuation, header_of}
-use Rattle.header_words.specs.Places.{field_of_lines, raw_field, field_between, fields_at, IsRising, with_start, header_at}
+use Rattle.header_words.specs.Places.{field_of_lines, raw_field, field_between, fields_at, letters_at, IsRising, with_start, with_letter, header_at}
 use Rattle.header_words.proofs.FirstLine.{lines_step, line_at}
-use Rattle.header_words.proofs.WholeLines.{IsWhole, drop_whole, lines_append, one_line, with_lines, extended, extended_none, extended_twice, extended_push, fields_with}
+use Rattle.header_words.proofs.WholeLines.{IsWhole, drop_whole, front_first, lines_append, one_line, with_lines, extended, extended_none, extended_twice, extended_push, fields_with}
 
 abbrev field_with : List ℕ → List (List ℕ) → FieldValue
 field_with name ls = record { name = name; lines = ls }
@@ -172,6 +172,34 @@ scanned_on bytes starts after at n line before h t s filled is =
             fields = ap (λ fs. fields_with fs (header_lines (drop (at + n) bytes))) fields ∙ with_line (fields_at bytes starts at) line (header_lines (drop (at + n) bytes)) none ∙ old;
             body = body;
           }
+    ]
+
+-- a line that begins a field is not empty
+field_some : (line : List ℕ) → begins_field line ≡ true → 0 < length line
+field_some [] begins = absurd (cc)
+field_some (x ∷ xs) begins = omega arith
+
+-- a line that begins a field begins with the byte at its place
+line_letter : (bytes line : List ℕ) (at : ℕ) → at < length bytes → line ≡ first_text (take (length bytes - at) (drop at bytes)) → begins_field line ≡ true → get_or line 0 0 ≡ get_or bytes at 0
+line_letter bytes line at h t begins =
+    let text : line ≡ first_text (drop at bytes) = t ∙ ap first_text (take_rest bytes at) in
+    let front = front_first (drop at bytes) in
+    let whole : line ++ front.back ≡ drop at bytes = ap (λ l. l ++ front.back) text ∙ front.is in
+    let some : 0 < length line = field_some line begins in
+    sym (get_or_append_left line front.back 0 0 some) ∙ ap (λ l. get_or l 0 0) whole ∙ get_or-drop at bytes 0 0 ∙ ap (λ k. get_or bytes k 0) (let q : at + 0 ≡ at = omega arith in q)
+
+-- the letters after one more line
+pub letters_on : (bytes starts starts_after letters letters_after : List ℕ) (at : ℕ) (line : List ℕ) → letters ≡ letters_at bytes starts → at < length bytes → line ≡ first_text (take (length bytes - at) (drop at bytes)) → starts_after ≡ with_start starts line at → letters_after ≡ with_letter letters line → letters_after ≡ letters_at bytes starts_after
+letters_on bytes starts starts_after letters letters_after at line before h t s l =
+    elim (cases_Bool (begins_field line)) [
+      | inl begins ↦
+          let places : starts_after ≡ starts ++ at ∷ [] = s ∙ ap (λ b. cond b (starts ++ at ∷ []) starts) begins in
+          l ∙ ap (λ b. cond b (letters ++ get_or line 0 0 ∷ []) letters) begins
+          ∙ ap (λ ls. ls ++ get_or line 0 0 ∷ []) before ∙ ap (λ b. letters_at bytes starts ++ b ∷ []) (line_letter bytes line at h t begins)
+          ∙ sym (map-append (λ k. get_or bytes k 0) starts (at ∷ [])) ∙ ap (letters_at bytes) (sym places)
+      | inr none ↦
+          let places : starts_after ≡ starts = s ∙ ap (λ b. cond b (starts ++ at ∷ []) starts) none in
+          l ∙ ap (λ b. cond b (letters ++ get_or line 0 0 ∷ []) letters) none ∙ before ∙ ap (letters_at bytes) (sym places)
     ]
 
 -- the header where no line is left

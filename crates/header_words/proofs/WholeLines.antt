@@ -8,14 +8,14 @@ use Rattle.std.specs.Char.{to_ascii_lowercase}
 use Rattle.std.proofs.lemmas.Slice.Eq.{bytes_eq-Decides}
 use Rattle.std.proofs.Math.ListN.{get_or-eq_default}
 use Rattle.std.specs.Str.Lines.{lines, strip_carriage_return}
-use Rattle.std.proofs.lemmas.Bool.{cases_lt, cases_Bool, ne_eqb, eqb-false, eq-eqb, lt-ltb}
-use Rattle.std.proofs.lemmas.List.{append-nil, length-take-le, get_or-drop, drop-append-le, get_or_default, take-append-le, take-append-drop, drop_all, take_all}
+use Rattle.std.proofs.lemmas.Bool.{cases_lt, cases_Bool, ne_eqb, eqb-false, eq-eqb, lt-ltb, false_from_ne_true}
+use Rattle.std.proofs.lemmas.List.{append-nil, length-take-le, get_or-drop, get_or-take, get_or-map, length-map, take_rest, drop-append-le, get_or_default, take-append-le, take-append-drop, drop_all, take_all}
 use Rattle.std.proofs.lemmas.List.Elements.{filter-append}
 use Rattle.std.proofs.lemmas.List.Folds.{prefix_len-append}
 use Rattle.std.proofs.lemmas.List.Sums.{prefix_len-le-length}
 use Rattle.header_words.specs.Lines.{is_newline, first_text, first_size}
 use Rattle.header_words.specs.Fields.{FieldValue, fields_of, own_lines, is_continuation, is_colon, name_of, has_name}
-use Rattle.header_words.specs.Places.{field_of_lines, raw_field, field_between, fields_at, IsRising, is_alike}
+use Rattle.header_words.specs.Places.{field_of_lines, raw_field, field_between, fields_at, letters_at, IsRising, is_alike, is_alike_first}
 use Rattle.header_words.proofs.FirstLine.{lines_step, first_text_found, first_size_last}
 
 abbrev record_of : List ℕ → List (List ℕ) → FieldValue
@@ -276,3 +276,71 @@ first_further name fields f i at other =
 pub first_here : (name : List ℕ) (fields : List FieldValue) (f : FieldValue) (i : ℕ) → slice_get fields i ≡ Some f → true ≡ str_eq_ignore_ascii_case f.name name → find (has_name name) (drop i fields) ≡ Some f
 first_here name fields f i at named =
     first_at (has_name name) fields f i at ∙ ap (λ b. cond b (Some f) (find (has_name name) (drop (suc i) fields))) (sym named)
+
+-- ---- fields by their letters
+
+-- a field of another name
+record HasOtherName (name : List ℕ) (fields : List FieldValue) (i : ℕ) : Type 0 where
+  field : FieldValue
+  at : slice_get fields i ≡ Some field
+  other : false ≡ str_eq_ignore_ascii_case field.name name
+
+-- fields of other names do not change the search
+others_skipped : (name : List ℕ) (fields : List FieldValue) (at n : ℕ) → ((k : ℕ) → at ≤ k → k < at + n → HasOtherName name fields k) → find (has_name name) (drop at fields) ≡ find (has_name name) (drop (at + n) fields)
+others_skipped name fields at zero others = ap (λ k. find (has_name name) (drop k fields)) (let q : at ≡ at + 0 = omega arith in q)
+others_skipped name fields at (suc n) others =
+    let here = others at (omega arith) (omega arith) in
+    first_further name fields here.field at here.at here.other
+    ∙ others_skipped name fields (at + 1) n (λ k low high. others k (omega arith) (omega arith))
+    ∙ ap (λ k. find (has_name name) (drop k fields)) (let q : at + 1 + n ≡ at + suc n = omega arith in q)
+
+alike_at : (raw name : List ℕ) → 0 < length raw → is_alike raw name ≡ is_alike_first (get_or raw 0 0) name
+alike_at [] name some = absurd (omega arith)
+alike_at (first ∷ raw) name some = refl
+
+-- a field begins with its letter
+alike_letter : (bytes starts name : List ℕ) (end i : ℕ) → IsRising starts end → end ≤ length bytes → i < length starts →
+    is_alike (take (get_or starts (suc i) end - get_or starts i 0) (drop (get_or starts i 0) bytes)) name ≡ is_alike_first (get_or (letters_at bytes starts) i 0) name
+alike_letter bytes starts name end i rise within h =
+    let a = get_or starts i 0 in
+    let b = get_or starts (suc i) end in
+    let next : get_or starts (suc i) end ≡ get_or starts (i + 1) end = ap (λ k. get_or starts k end) (let q : suc i ≡ i + 1 = omega arith in q) in
+    let rises = rises_at starts end i rise h in
+    let below = rises.below in
+    let last = rises.within in
+    let first : a ≡ get_or starts i end = sym (get_or_default starts i end 0 h) in
+    let some : 0 < length (take (b - a) (drop a bytes)) = omega (arith, length-drop {A = ℕ}, length-take-le (b - a) (drop a bytes) (omega (arith, length-drop {A = ℕ}))) in
+    let letter : get_or (take (b - a) (drop a bytes)) 0 0 ≡ get_or (letters_at bytes starts) i 0 =
+    get_or-take (b - a) (drop a bytes) 0 0 (omega arith) ∙ get_or-drop a bytes 0 0 ∙ ap (λ k. get_or bytes k 0) (let q : a + 0 ≡ a = omega arith in q) ∙ sym (get_or-map (λ k. get_or bytes k 0) starts i 0 0 h) in
+    alike_at (take (b - a) (drop a bytes)) name some ∙ ap (λ c. is_alike_first c name) letter
+
+-- what a search of letters needs to know of the fields
+pub record HasLetters (bytes starts letters : List ℕ) (end : ℕ) (fields : List FieldValue) : Type 0 where
+  pub seen : fields_at bytes starts end ≡ fields
+  pub rise : IsRising starts end
+  pub within : end ≤ length bytes
+  pub each : letters ≡ letters_at bytes starts
+
+pub letters_count : (bytes starts letters : List ℕ) (end : ℕ) (fields : List FieldValue) → HasLetters bytes starts letters end fields → length letters ≡ length fields
+letters_count bytes starts letters end fields has = ap length has.each ∙ length-map starts (slice_index bytes) ∙ sym (length-fields_at bytes starts end) ∙ ap length has.seen
+
+-- the field of a number whose letter isn't the name's
+other_at : (bytes starts letters name : List ℕ) (end : ℕ) (fields : List FieldValue) (i : ℕ) → HasLetters bytes starts letters end fields → i < length starts → is_alike_first (get_or letters i 0) name ≡ false → HasOtherName name fields i
+other_at bytes starts letters name end fields i has h apart =
+    let raw = take (get_or starts (suc i) end - get_or starts i 0) (drop (get_or starts i 0) bytes) in
+    let alike : false ≡ is_alike raw name = sym apart ∙ ap (λ l. is_alike_first (get_or l i 0) name) has.each ∙ sym (alike_letter bytes starts name end i has.rise has.within h) in
+    record {
+      field = raw_field raw;
+      at = ap (λ fs. slice_get fs i) (sym has.seen) ∙ get_or-fields_at bytes starts end i h;
+      other = not_named raw name (raw_field raw) false refl refl alike;
+    }
+
+-- the search goes on after fields whose letters aren't the name's
+pub letters_skipped : (bytes starts letters name : List ℕ) (end : ℕ) (fields : List FieldValue) (at n : ℕ) → HasLetters bytes starts letters end fields → at + n ≤ length fields
+    → ((k : ℕ) → k < n → is_alike_first (get_or (take (length letters - at) (drop at letters)) k 0) name ≡ true → ⊥) → find (has_name name) (drop at fields) ≡ find (has_name name) (drop (at + n) fields)
+letters_skipped bytes starts letters name end fields at n has fit none =
+    let many : length fields ≡ length starts = ap length (sym has.seen) ∙ length-fields_at bytes starts end in
+    others_skipped name fields at n (λ k low high.
+    let place : at + (k - at) ≡ k = omega arith in
+    let letter : get_or (take (length letters - at) (drop at letters)) (k - at) 0 ≡ get_or letters k 0 = ap (λ l. get_or l (k - at) 0) (take_rest letters at) ∙ get_or-drop at letters (k - at) 0 ∙ ap (λ j. get_or letters j 0) place in
+    other_at bytes starts letters name end fields k has (omega arith) (false_from_ne_true _ (λ alike. none (k - at) (omega arith) (ap (λ c. is_alike_first c name) letter ∙ alike))))

@@ -1,8 +1,8 @@
 -- Fields as the places of a message at which they begin.
 use Rattle.std.specs.Char.{to_ascii_lowercase}
-use Rattle.std.specs.Prelude.{ℕ, Bool, true, ◌+◌, ◌-◌, ◌<◌, ◌==◌, List, [], ◌∷◌, ◌++◌, if◌then◌else◌, length, take, drop, slice_index}
+use Rattle.std.specs.Prelude.{ℕ, Bool, true, ◌+◌, ◌-◌, ◌<◌, ◌==◌, List, [], ◌∷◌, ◌++◌, if◌then◌else◌, length, take, drop, slice_index, map, Option, Some, None}
 use Rattle.std.specs.Str.Lines.{lines}
-use Rattle.header_words.specs.Fields.{FieldValue, Header, field_of, begins_field}
+use Rattle.header_words.specs.Fields.{FieldValue, Header, field_of, begins_field, first_of}
 
 -- the field of these lines
 abbrev pub field_of_lines : List (List ℕ) → FieldValue
@@ -34,6 +34,19 @@ header_at bytes starts end body = record { fields = fields_at bytes starts end; 
 -- the places with that of one more line, if it begins a field
 abbrev pub with_start : List ℕ → List ℕ → ℕ → List ℕ
 with_start starts line at = if begins_field line then starts ++ at ∷ [] else starts
+
+-- the bytes at these places
+abbrev pub letters_at : List ℕ → List ℕ → List ℕ
+letters_at bytes starts = map (slice_index bytes) starts
+
+-- the letters with that of one more line, if it begins a field
+abbrev pub with_letter : List ℕ → List ℕ → List ℕ
+with_letter letters line = if begins_field line then letters ++ slice_index line 0 ∷ [] else letters
+
+-- the first field of a name, from a number on; none without a number
+abbrev pub first_from : List ℕ → List FieldValue → Option ℕ → Option FieldValue
+first_from name fields None = None
+first_from name fields (Some at) = first_of name (drop at fields)
 
 -- the first bytes of a field and of a name are the same letter, in either case
 abbrev pub is_alike_first : ℕ → List ℕ → Bool

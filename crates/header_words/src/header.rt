@@ -1,10 +1,12 @@
 //! A header: its fields, and the place of the body.
-ghost use Rattle.std.specs.Prelude.{◌≡◌, ◌<◌, ◌≤◌, ◌+◌, ◌-◌, ◌==◌, length, slice_index_or, take, drop, Some};
+ghost use Rattle.std.specs.Prelude.{◌≡◌, ◌<◌, ◌≤◌, ◌+◌, ◌-◌, ◌==◌, length, slice_index_or, take, drop, IfSome, Some};
 ghost use Rattle.std.specs.List.{slice_get};
 ghost use Rattle.std.specs.Char.{to_ascii_lowercase};
+ghost use Rattle.memchr.specs.Find.{IsFirstByte};
 ghost use Rattle.header_words.specs.Places.{is_alike, is_alike_first};
 
 use crate::lines::{colon_of, first_line};
+use memchr::memchr2;
 use std::marker::Model;
 
 /// A field of a message. It lends the field's lines.
@@ -22,25 +24,27 @@ impl<'a> Model for Field<'a> {
     ghost view = { λ f. raw_field f.raw.now };
 }
 
-/// The fields of a message in order, and the place of its body. They lend the message's bytes and keep the place of each field.
+/// The fields of a message in order, and the place of its body. They lend the message's bytes, and keep the place and the first
+/// letter of each field.
 #[derive(Drop)]
 pub struct Fields<'a> {
     bytes: &'a [u8],
     starts: Vec<usize>,
+    letters: Vec<u8>,
     end: usize,
     body: usize,
 }
 
 impl<'a> Model for Fields<'a> {
-    ghost use Rattle.std.specs.Prelude.{◌≤◌, length};
+    ghost use Rattle.std.specs.Prelude.{◌≡◌, ◌≤◌, length};
     ghost use Rattle.header_words.specs.Fields.{Header};
-    ghost use Rattle.header_words.specs.Places.{header_at, IsRising};
+    ghost use Rattle.header_words.specs.Places.{header_at, letters_at, IsRising};
 
     ghost Value = { Header };
 
     ghost view = { λ f. header_at f.bytes.now f.starts.items f.end f.body };
 
-    ghost invariant = { λ f. IsRising f.starts.items f.end × (f.end ≤ length f.bytes.now) };
+    ghost invariant = { λ f. IsRising f.starts.items f.end × (f.end ≤ length f.bytes.now) × (f.letters.items ≡ letters_at f.bytes.now f.starts.items) };
 }
 
 impl<'a> Field<'a> {
@@ -109,6 +113,18 @@ fn lower(byte: u8) -> u8
     }
 }
 
+/// Returns the position of the first letter that begins the name, in either case. Each letter begins an empty name. The first
+/// letter is tested before the search, which costs more if fields of one letter come together.
+fn alike_position(letters: &[u8], name: &[u8]) -> Option<usize>
+    ensures { IsFirstByte (λ b. is_alike_first b name.now) letters.now result }
+{
+    match (letters, name) {
+        ([next, ..], _) if is_alike_first(*next, name) => Some(0),
+        (_, [letter, ..]) => memchr2(lower(*letter), letter.to_ascii_uppercase(), letters),
+        _ => None,
+    }
+}
+
 fn between(bytes: &[u8], start: usize, end: usize) -> &[u8]
     requires rising { start ≤ end }
     requires within { end ≤ length bytes.now }
@@ -130,17 +146,25 @@ fn next_start(starts: &[usize], index: usize, end: usize) -> usize
 
 impl<'a> Fields<'a> {
     ghost use Rattle.header_words.specs.Fields.{first_of};
-    ghost use Rattle.header_words.specs.Places.{header_at, IsRising};
+    ghost use Rattle.header_words.specs.Places.{header_at, letters_at, first_from, IsRising};
 
-    /// Returns the fields that begin at these places.
-    pub(crate) fn of(bytes: &'a [u8], starts: Vec<usize>, end: usize, body: usize) -> Self
+    /// Returns the fields that begin at these places with these letters.
+    pub(crate) fn of(
+        bytes: &'a [u8],
+        starts: Vec<usize>,
+        letters: Vec<u8>,
+        end: usize,
+        body: usize,
+    ) -> Self
         requires rising { IsRising starts.items end }
         requires within { end ≤ length bytes.now }
+        requires letters { letters.items ≡ letters_at bytes.now starts.items }
         ensures { result ≡ header_at bytes.now starts.items end body }
     {
         Fields {
             bytes,
             starts,
+            letters,
             end,
             body,
         }
@@ -177,15 +201,29 @@ impl<'a> Fields<'a> {
         Field::of(between(self.bytes, start, end))
     }
 
+    /// Returns the number of the first field from `at` on that begins with the name's first letter, in either case. No field
+    /// between has the name.
+    fn next_alike(&self, name: &[u8], at: usize) -> Option<usize>
+        requires { at ≤ length self.now.fields }
+        ensures within { IfSome result (λ index. (at ≤ index) × (index < length self.now.fields)) }
+        ensures skips { first_of name.now (drop at self.now.fields) ≡ first_from name.now self.now.fields result }
+    {
+        let skipped = alike_position(&self.letters[at..], name)?;
+        Some(at + skipped)
+    }
+
     /// Returns the first field of a name, in either case.
     pub fn first(&self, name: &str) -> Option<Field<'a>>
         ensures { result ≡ first_of name.now self.now.fields }
     {
-        for index in 0..self.len() {
+        let mut at = 0;
+        while at < self.len() {
+            let index = self.next_alike(name.as_bytes(), at)?;
             let field = self.get(index);
             if field.is_named(name) {
                 return Some(field);
             }
+            at = index + 1;
         }
         None
     }

@@ -1,7 +1,9 @@
-use Rattle.std.proofs.Common.{◌≡◌, drop}
-use Rattle.std.specs.Prelude.{find}
-use Rattle.header_words.specs.Fields.{first_of, has_name}
+use Rattle.std.proofs.Common.{◌≡◌, ◌-◌, ◌≤◌, drop, length}
+use Rattle.header_words.specs.Fields.{first_of}
 use Rattle.header_words.proofs.header.Fields.first.Given as goal
 
-abbrev pub invariant-loop-index : goal.invariant-loop-index
-invariant-loop-index l = first_of l.name l.self.fields ≡ find (has_name l.name) (drop l.index l.self.fields)
+abbrev pub invariant-loop-at : goal.invariant-loop-at
+invariant-loop-at l = (l.at ≤ length l.self.fields) × (first_of l.name l.self.fields ≡ first_of l.name (drop l.at l.self.fields))
+
+abbrev pub decreases-loop-at : goal.decreases-loop-at
+decreases-loop-at l = length l.self.fields - l.at
