@@ -71,7 +71,7 @@ fn each_call_with_ample_memory(rt: HostRuntime) -> Result<(), Fail> {
 
 // A text of this many copies of a piece.
 fn repeated(alloc: Global, piece: &str, count: usize) -> Result<String, Memory> {
-    let mut text = String::with_capacity(alloc, piece.len() * count)?;
+    let mut text = String::new(alloc);
     for _ in 0..count {
         text.push_str(piece)?;
     }

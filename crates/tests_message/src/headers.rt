@@ -111,8 +111,8 @@ fn decodes_words(rt: HostRuntime) -> Result<(), Fail> {
         let mut message = Vec::from_slice(alloc, b"S: ")?;
         message.extend_from_slice(value)?;
         let read = fields(alloc, &message)?;
-        let text = decoded(alloc, &read.get(0))?;
-        assert_eq!(rt; text.as_str(), want);
+        let field = read.first("S").ok_or("a field")?;
+        assert_eq!(rt; decoded(alloc, &field)?.as_str(), want);
     }
     Ok(())
 }
