@@ -2,7 +2,7 @@
 use Rattle.std.proofs.Common.{◌≡◌, [], ◌∷◌, ◌++◌, refl, codes}
 use lib.Utf8.{encode}
 use Rattle.std.specs.Str.{is_utf8, chars}
-use Rattle.std.specs.Str.Lossy.{utf8_lossy, utf8_valid_len}
+use Rattle.std.specs.Str.Lossy.{utf8_lossy, utf8_valid_len, utf8_error_len}
 use Rattle.transfer_codings.specs.Quoted.{quoted_bytes, line_bytes, without_blanks, unescaped}
 use Rattle.transfer_codings.specs.Base64.{bytes_of, sextet_of}
 use Rattle.header_words.specs.EncodedWords.{with_words_decoded, items_from, joined, word_at, word_text}
@@ -211,3 +211,13 @@ folded_value = refl
 no_value : decoded_of [] ≡ []
 unfolding decoded_of with_words_decoded items_from joined word_at word_text utf8_lossy utf8_valid_len is_utf8 chars encode quoted_bytes line_bytes without_blanks unescaped bytes_of sextet_of
 no_value = refl
+
+-- a word begins with both characters
+half_an_opening : with_words_decoded (codes "=xutf-8?q?a?= ?utf-8?q?a?=") ≡ codes "=xutf-8?q?a?= ?utf-8?q?a?="
+unfolding with_words_decoded items_from joined word_at word_text
+half_an_opening = refl
+
+-- bytes that are no UTF-8 are U+FFFD
+no_utf8 : decoded_of ((97 ∷ 255 ∷ 98 ∷ []) ∷ []) ≡ 97 ∷ 239 ∷ 191 ∷ 189 ∷ 98 ∷ []
+unfolding decoded_of with_words_decoded items_from joined word_at utf8_lossy utf8_valid_len utf8_error_len is_utf8 chars encode
+no_utf8 = refl

@@ -1,3 +1,4 @@
 pub mod LineFeeds
 pub mod Gathering
 pub mod Safe
+pub mod Examples

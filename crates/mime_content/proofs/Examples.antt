@@ -1,8 +1,15 @@
 -- Worked examples of structured fields and of the Content-* fields.
-use Rattle.std.proofs.Common.{◌≡◌, true, false, [], ◌∷◌, Some, None, refl, codes}
+use Rattle.std.proofs.Common.{◌≡◌, ℕ, true, false, List, [], ◌∷◌, ◌++◌, Some, None, refl, codes}
+use lib.Utf8.{encode}
+use Rattle.std.specs.Str.{is_utf8, chars}
+use Rattle.std.specs.Str.Lossy.{utf8_lossy, utf8_valid_len}
+use Rattle.std.specs.List.{list_any}
+use Rattle.transfer_codings.specs.Quoted.{quoted_bytes, line_bytes, without_blanks, unescaped}
+use Rattle.header_words.specs.EncodedWords.{with_words_decoded, items_from, joined, word_at, word_text}
+use Rattle.header_words.specs.Fields.{FieldValue}
 use Rattle.transfer_codings.specs.declared.coding.Coding.TheVariants.{Plain, Base64, Quoted}
 use Rattle.mime_content.specs.Pieces.{pieces, parameter, first_piece}
-use Rattle.mime_content.specs.Content.{is_type, readable, mime_of, filled, coding_named, is_attachment, id_in, location_in, format_of}
+use Rattle.mime_content.specs.Content.{is_type, readable, mime_of, filled, coding_named, is_attachment, id_in, location_in, format_of, content_of}
 
 -- ---- pieces and parameters
 
@@ -16,6 +23,9 @@ first_parameter = refl
 -- a quoted string that doesn't end doesn't read, nor does one with bytes after it
 unread_parameter : parameter (codes "name") (codes "a/b; name=\"x; name=\"y\" z; name=w") ≡ None
 unread_parameter = refl
+
+unended_parameter : parameter (codes "name") (codes "a/b; name=\"x") ≡ None
+unended_parameter = refl
 
 later_parameter : parameter (codes "name") (codes "a/b; name=\"x\" y; name=w") ≡ Some (codes "w")
 later_parameter = refl
@@ -45,6 +55,10 @@ no_subtype = refl
 
 spaced_type : is_type (codes "text /plain") ≡ false
 spaced_type = refl
+
+-- none of the characters that separate, and nothing outside of ASCII, is in a token (RFC 2045 §5.1)
+no_types : list_any is_type (codes "a/b(" ∷ codes "a/b)" ∷ codes "a/b<" ∷ codes "a/b>" ∷ codes "a/b@" ∷ codes "a/b," ∷ codes "a/b;" ∷ codes "a/b:" ∷ codes "a/b\\" ∷ codes "a/b\"" ∷ codes "a/b[" ∷ codes "a/b]" ∷ codes "a/b?" ∷ codes "a/b=" ∷ (codes "a/b" ++ 127 ∷ []) ∷ (codes "a/b" ++ 200 ∷ []) ∷ (codes "a/b" ++ 31 ∷ []) ∷ []) ≡ false
+no_types = refl
 
 unread_type : readable (codes "text; charset=x") ≡ []
 unread_type = refl
@@ -95,6 +109,9 @@ an_id = refl
 bare_id : id_in (codes "a@b") ≡ None
 bare_id = refl
 
+unended_id : id_in (codes "<a@b") ≡ None
+unended_id = refl
+
 half_an_id : id_in (codes "<") ≡ None
 half_an_id = refl
 
@@ -109,3 +126,25 @@ flowed_delsp = refl
 
 fixed : format_of (codes "text/plain; delsp=yes") ≡ None
 fixed = refl
+
+-- ---- all fields
+
+-- without any field a part is a text of the default type, in UTF-8
+without_fields : content_of (codes "text/plain") [] ≡ record { mime = codes "text/plain"; boundary = None; charset = codes "utf-8"; coding = Some Plain; attached = false; name = []; id = None; location = None; format = None }
+unfolding content_of
+without_fields = refl
+
+abbrev field : List ℕ → List ℕ → FieldValue
+field name value = record { name = name; lines = value ∷ [] }
+
+-- the file's name is that of the disposition, with its words decoded; values lose the blanks around them
+with_fields : content_of (codes "text/plain") (field (codes "content-type") (codes " Image/PNG; name=b; Boundary=x; charset=y; format=flowed; delsp=no") ∷ field (codes "CONTENT-DISPOSITION") (codes " attachment; filename=\"=?utf-8?q?a=2E?=png\"") ∷ field (codes "Content-Transfer-Encoding") (codes " BASE64 ") ∷ field (codes "Content-ID") (codes " <i@x> ") ∷ field (codes "Content-Location") (codes " u v ") ∷ [])
+    ≡ record { mime = codes "image/png"; boundary = Some (codes "x"); charset = codes "y"; coding = Some Base64; attached = true; name = codes "a.png"; id = Some (codes "i@x"); location = Some (codes "u v"); format = Some false }
+unfolding content_of with_words_decoded items_from joined word_at word_text utf8_lossy utf8_valid_len is_utf8 chars encode quoted_bytes line_bytes without_blanks unescaped
+with_fields = refl
+
+-- a name that only the type says
+named_by_type : content_of (codes "text/plain") (field (codes "Content-Type") (codes "a/b; name=\"=?utf-8?q?c?=\"") ∷ field (codes "Content-Disposition") (codes "inline") ∷ [])
+    ≡ record { mime = codes "a/b"; boundary = None; charset = codes "utf-8"; coding = Some Plain; attached = false; name = codes "c"; id = None; location = None; format = None }
+unfolding content_of with_words_decoded items_from joined word_at word_text utf8_lossy utf8_valid_len is_utf8 chars encode quoted_bytes line_bytes without_blanks unescaped
+named_by_type = refl

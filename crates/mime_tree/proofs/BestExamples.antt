@@ -50,3 +50,8 @@ attached = refl
 in_message : best_in (codes "Content-Type: message/rfc822\n\n\nx") ≡ Nothing
 unfolding best_of leaf_to_show tree_of parts_of message_of tree_after_steps open_first opens_beside children_of children_from node_at content_of places is_closing_line is_delimiter_line header_of
 in_message = refl
+
+-- three multiparts in one another
+nested : best_in (codes "Content-Type: multipart/mixed; boundary=a\n\n--a\nContent-Type: multipart/mixed; boundary=b\n\n--b\nContent-Type: multipart/mixed; boundary=c\n\n--c\n\nx\n--c--\n--b--\n--a--\n") ≡ Plain (1 ∷ 1 ∷ 1 ∷ [])
+unfolding best_of leaf_to_show tree_of parts_of message_of tree_after_steps open_first opens_beside children_of children_from node_at content_of places is_closing_line is_delimiter_line header_of
+nested = refl

@@ -12,3 +12,4 @@ pub mod OpensLaws
 pub mod ShownLaws
 pub mod LineLaws
 pub mod ClearLaws
+mod LimitExamples

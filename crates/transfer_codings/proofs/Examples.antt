@@ -173,3 +173,8 @@ two_rows = refl
 escape_at_end : quoted_text (replicate 74 97 ++ codes "=b") ≡ replicate 74 97 ++ 61 ∷ 13 ∷ 10 ∷ codes "=3Db"
 unfolding quoted_text rows_text broken_lines unit_of
 escape_at_end = refl
+
+-- hexadecimal digits of either case; a letter after F is none
+hexadecimal_digits : quoted_bytes (codes "=fF=Af=0a=9A=gf=fg") ≡ 255 ∷ 175 ∷ 10 ∷ 154 ∷ codes "=gf=fg"
+unfolding line_bytes quoted_bytes unescaped without_blanks
+hexadecimal_digits = refl
