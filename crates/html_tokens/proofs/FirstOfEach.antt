@@ -5,13 +5,7 @@ use Rattle.std.proofs.lemmas.Slice.Eq.{bytes_eq-Decides}
 use Rattle.std.specs.List.{filter}
 use Rattle.html_syntax.specs.Token.{Attribute}
 use Rattle.html_syntax.specs.States.{has_name, same}
-use Rattle.html_tokens.specs.Tags.{add_attribute}
-use Rattle.html_tokens.specs.Attributes.{first_of_each}
-
--- the attributes with those of a list added one after the other
-abbrev pub add_all : List Attribute → List Attribute → List Attribute
-add_all kept [] = kept
-add_all kept (a ∷ attributes) = add_all (add_attribute kept a) attributes
+use Rattle.html_tokens.specs.Attributes.{first_of_each, add_all}
 
 -- none of the attributes has its name
 abbrev is_new : List Attribute → Attribute → Bool

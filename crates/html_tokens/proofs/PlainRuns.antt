@@ -7,10 +7,6 @@ use Rattle.std.specs.List.{list_all}
 use Rattle.memchr.specs.Find.{IsFirstByte}
 use Rattle.html_references.specs.Input.{input, read_as, no_special}
 use Rattle.html_references.specs.declared.stretch.ReadAs.{ReadAs}
-use Rattle.html_syntax.specs.Tokenizer.{chars as char_tokens}
-use Rattle.html_tokens.specs.Scanned.{slice_between, part_tokens}
-use Rattle.html_tokens.specs.declared.span.Part.{Part}
-use Rattle.html_tokens.specs.declared.span.Part.TheVariants as parts
 use Rattle.html_references.proofs.Searches.{found, not_found}
 use Rattle.html_references.proofs.StretchReads.{plain_all}
 
@@ -33,7 +29,3 @@ pub plain_reads : (r : ReadAs) (bytes : List ℕ) → IsUtf8 bytes → no_specia
 plain_reads r bytes utf8 plain =
     let whole : take (length bytes) bytes ≡ bytes = take_all (length bytes) bytes (omega arith) in
     ap chars (sym whole) ∙ plain_all r bytes (length bytes) utf8 (IsCharBoundary-end bytes) (ap no_special whole ∙ plain) (omega arith)
-
-pub run_reads : (text run : List ℕ) (start end : ℕ) (part : Part) (r : ReadAs) → part ≡ parts.Run r → run ≡ slice_between start end text → IsUtf8 run → no_special run ≡ true
-    → char_tokens (chars run) ≡ part_tokens text start end part
-run_reads text run start end part r is run_is utf8 plain = rw is (ap char_tokens (plain_reads r run utf8 plain) ∙ ap (λ (l : List ℕ). char_tokens (read_as r (input l))) run_is)

@@ -14,16 +14,16 @@ use Rattle.html_references.specs.Input.{input}
 use Rattle.html_references.proofs.Stretches.{boundary_at}
 use Rattle.html_tokens.specs.Cuts.{LacksByte, BeginsWithByte, IsCutAt}
 use Rattle.html_tokens.specs.Scanned.{slice_between}
-use Rattle.html_tokens.specs.Tags.{in_class, is_blank, read_name, read_value, begins_quoted, BeginsOutside, BeginsAttribute, EndsTag, ReadsValueAt, ReadsEqualsBefore, ReadsAttributeAt, ReadsAttributes, add_attribute, attribute_at, keep_attribute, with_attributes, tokens_after_tag}
-use Rattle.html_tokens.specs.Attributes.{name_len, begins_equals, equals_end, quoted_place, first_value, value_place, place_with, attribute_place, attributes_after, attributes_in, first_of_each}
+use Rattle.html_tokens.specs.Tags.{in_class, is_blank, read_name, read_value, begins_quoted, BeginsOutside, BeginsAttribute, EndsTag, ReadsValueAt, ReadsEqualsBefore, ReadsAttributeAt, ReadsAttributes, add_attribute, attribute_at, with_attributes, tokens_after_tag}
+use Rattle.html_tokens.specs.Attributes.{name_len, begins_equals, equals_end, quoted_place, first_value, value_place, place_with, attribute_place, attributes_after, attributes_in, first_of_each, add_all}
 use Rattle.html_tokens.specs.declared.tags.AttributePlace.{AttributePlace}
 use Rattle.html_tokens.specs.declared.tags.ValuePlace.{ValuePlace}
 use Rattle.html_tokens.specs.declared.tags.Class.TheVariants as class
-use Rattle.html_tokens.proofs.TagRuns.{small_boundary, prefix_all, prefix_outside, passed}
+use Rattle.html_tokens.proofs.TagRuns.{small_boundary, prefix_all, prefix_outside, passed, sliced}
 use Rattle.html_tokens.proofs.TagNames.{named}
 use Rattle.html_tokens.proofs.TagValues.{in_quotes, in_bare, bare_boundary, space_small, value_later, between_later, equals_passed, equals_absent, equals_boundary, quote_of}
-use Rattle.html_tokens.proofs.TagAttributes.{without_value, later, is_gap, gap_small, gap_bytes_small, gap_passed, tag_closes, tag_open, keeping_among}
-use Rattle.html_tokens.proofs.FirstOfEach.{add_all, added_are_first}
+use Rattle.html_tokens.proofs.TagAttributes.{without_value, later, is_gap, gap_small, gap_bytes_small, gap_passed, tag_closes, tag_open, keeping_among, attributes_more, Passed}
+use Rattle.html_tokens.proofs.FirstOfEach.{added_are_first}
 
 -- ---- the value
 
@@ -142,12 +142,27 @@ attribute_reads rest utf8 begins =
       | inr other ↦ rw other (without_value rest name utf8 begins (omega arith) there.boundary there.reads (equals_absent after blank after_utf8 refl (equals_missing after blank other)))
     ]
 
-pub attribute_gap : (rest : List ℕ) (place : AttributePlace) (gap : ℕ) → IsUtf8 rest → BeginsAttribute rest → place ≡ attribute_place rest
-    → ((t : Tag) → read (BeforeName t) 0 (input (drop place.end rest)) ≡ read (BeforeName t) 0 (input (drop gap (drop place.end rest))))
-    → ReadsAttributeAt rest (record { name = place.name; value = place.value; value_end = place.value_end; end = place.end + gap })
-attribute_gap rest place gap utf8 begins is over = λ t.
-    let tag = keep_attribute t (attribute_at rest place) in
-    subst (ReadsAttributeAt rest) (sym is) (attribute_reads rest utf8 begins) t ∙ over tag ∙ ap (λ (l : List ℕ). read (BeforeName tag) 0 (input l)) (drop-drop gap place.end rest)
+-- one attribute more, and the gap after it
+pub passed_next : (rest text after : List ℕ) (at gap : ℕ) (place : AttributePlace) → text ≡ drop at rest → after ≡ drop (at + place.end) rest → IsUtf8 text → BeginsAttribute text → place ≡ attribute_place text
+    → IsCharBoundary text place.end → IsCharBoundary after gap → BeginsOutside (in_class class.Gap) (drop gap after)
+    → ((t : Tag) → read (BeforeName t) 0 (input after) ≡ read (BeforeName t) 0 (input (drop gap after))) → Passed rest at → Passed rest (at + place.end + gap)
+passed_next rest text after at gap place text_is after_is utf8 begins place_is end gap_end next over before =
+    let there = drop-drop gap (at + place.end) rest in
+    let beyond : drop gap after ≡ drop (at + place.end + gap) rest = ap (drop gap) after_is ∙ there in
+    let end_there : IsCharBoundary rest (at + place.end) = later rest at place.end before.boundary (subst (λ (l : List ℕ). IsCharBoundary l place.end) text_is end) in
+    let holds : ReadsAttributeAt (drop at rest) place = subst (λ (l : List ℕ). ReadsAttributeAt l place) text_is (subst (ReadsAttributeAt text) (sym place_is) (attribute_reads text utf8 begins)) in
+    let more = λ (t : Tag). add_attribute (before.reads t).0 (attribute_at (drop at rest) place) in
+    record {
+      boundary = later rest (at + place.end) gap end_there (subst (λ (l : List ℕ). IsCharBoundary l gap) after_is gap_end);
+      next = subst (BeginsOutside (in_class class.Gap)) beyond next;
+      reads = λ t. (
+        more t,
+        attributes_more t (before.reads t).0 rest at place (before.reads t).1 holds
+            ∙ ap (λ (l : List ℕ). read (BeforeName (with_attributes t (more t))) 0 (input l)) (sym after_is)
+            ∙ over (with_attributes t (more t))
+            ∙ ap (λ (l : List ℕ). read (BeforeName (with_attributes t (more t))) 0 (input l)) beyond,
+      );
+    }
 
 -- ---- the end of an attribute
 
@@ -240,6 +255,22 @@ first_there (b ∷ text) begins =
     rw (begins.0, open_tag) (ap (λ (l : List Attribute). attribute_at (b ∷ text) place ∷ l) (passed_over (place.end - 1) text ∙ ap (λ (n : ℕ). attributes_in (drop n (b ∷ text))) (sym count)))
 
 -- ---- what the code finds
+
+pub name_place : (rest bytes : List ℕ) (n : ℕ) → bytes ≡ rest → IsUtf8 rest → BeginsAttribute rest → n ≡ prefix_len (in_class class.AttributeName) (take (length bytes - 1) (drop 1 bytes))
+    → (1 + n ≡ name_len rest) × IsCharBoundary rest (1 + n)
+name_place rest bytes n bytes_is utf8 begins is =
+    let name_is : 1 + n ≡ name_len rest = ap (λ (k : ℕ). 1 + k) (is ∙ ap (prefix_len (in_class class.AttributeName)) (sliced 1 bytes ∙ ap (λ (l : List ℕ). drop 1 l) bytes_is)) in
+    (name_is, subst (IsCharBoundary rest) (sym name_is) (named rest (prefix_len (in_class class.AttributeName) (drop 1 rest)) utf8 begins refl).boundary)
+
+pub quoted_is : (rest bytes after : List ℕ) (len end : ℕ) → bytes ≡ rest → after ≡ drop 1 rest → begins_quoted rest ≡ true → IsCharBoundary after len → IsCharBoundary after end
+    → LacksByte (get_or bytes 0 0) (take len after) → IsCutAt (get_or bytes 0 0) after len end → record { start = 1; end = 1 + len; after = 1 + end } ≡ first_value rest
+quoted_is rest bytes after len end bytes_is after_is quoted len_at end_at lacks cut =
+    let quote = get_or bytes 0 0 in
+    rw quoted (quoted_place_is rest quote len end quoted (ap (λ (l : List ℕ). get_or l 0 0) bytes_is)
+    (subst (λ (l : List ℕ). IsCharBoundary l len) after_is len_at).0
+    (subst (λ (l : List ℕ). IsCharBoundary l end) after_is end_at).0
+    (subst (λ (l : List ℕ). LacksByte quote (take len l)) after_is lacks)
+    (subst (λ (l : List ℕ). IsCutAt quote l len end) after_is cut))
 
 pub place_is : (rest : List ℕ) (name : ℕ) (found : Option ℕ) → name ≡ name_len rest → found ≡ equals_end (drop name rest) → place_with name (drop name rest) found ≡ attribute_place rest
 unfolding attribute_place

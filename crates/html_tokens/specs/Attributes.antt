@@ -4,7 +4,7 @@ use Rattle.std.specs.List.{prefix_len, filter}
 use Rattle.html_syntax.specs.Token.{Attribute}
 use Rattle.html_syntax.specs.Characters.{equals_sign, greater_than}
 use Rattle.html_syntax.specs.States.{same}
-use Rattle.html_tokens.specs.Tags.{in_class, is_blank, begins_quoted, attribute_at}
+use Rattle.html_tokens.specs.Tags.{in_class, is_blank, begins_quoted, attribute_at, add_attribute}
 use Rattle.html_tokens.specs.declared.tags.AttributePlace.{AttributePlace}
 use Rattle.html_tokens.specs.declared.tags.ValuePlace.{ValuePlace}
 use Rattle.html_tokens.specs.declared.tags.Class.TheVariants as class
@@ -72,6 +72,11 @@ attributes_in text = attributes_after 0 text
 abbrev pub first_of_each : List Attribute → List Attribute
 first_of_each [] = []
 first_of_each (a ∷ attributes) = a ∷ filter (λ b. not (same a.name b.name)) (first_of_each attributes)
+
+-- the attributes with those of a list added one after the other, each if its name is new
+abbrev pub add_all : List Attribute → List Attribute → List Attribute
+add_all kept [] = kept
+add_all kept (a ∷ attributes) = add_all (add_attribute kept a) attributes
 
 -- a start tag as it is written: its name, and all attributes
 pub record WrittenTag : Type 0 where

@@ -2,7 +2,7 @@
 ghost use Rattle.std.specs.Prelude.{◌≡◌, ◌∷◌, [], MatchOption};
 ghost use Rattle.html_tokens.specs.Attributes.{attributes_in};
 
-use crate::tags::{attribute_alone, begins_attribute, gap_len};
+use crate::tags::{attribute, begins_attribute, gap_len};
 use crate::written::{WrittenAttribute, WrittenName};
 use std::marker::Model;
 
@@ -54,34 +54,20 @@ impl<'t> Model for AttributeReader<'t> {
     ghost view = { λ r. attributes_in r.rest.now };
 }
 
-/// The first attribute in the text after a tag's name, and the text after it. `None` if there is none.
-fn first_attribute(rest: &str) -> Option<(WrittenAttribute<'_>, &str)>
-    ensures { MatchOption result (attributes_in rest.now ≡ []) (λ found. attributes_in rest.now ≡ found.0 ∷ attributes_in found.1.now) }
-{
-    let text = &rest[gap_len(rest)..];
-    if begins_attribute(text) {
-        let place = attribute_alone(text);
-        let attribute = WrittenAttribute {
-            name: &text[..place.name],
-            value: &text[place.value..place.value_end],
-        };
-        Some((attribute, &text[place.end..]))
-    } else {
-        None
-    }
-}
-
 impl<'t> AttributeReader<'t> {
     /// Reads the next attribute. `None` if and only if none is left.
     pub fn next(&mut self) -> Option<WrittenAttribute<'t>>
         ensures { MatchOption result ((self.old ≡ []) × (self.new ≡ [])) (λ attribute. self.old ≡ attribute ∷ self.new) }
     {
-        match first_attribute(self.rest) {
-            None => None,
-            Some((attribute, rest)) => {
-                self.rest = rest;
-                Some(attribute)
-            }
+        let text = &self.rest[gap_len(self.rest)..];
+        if !begins_attribute(text) {
+            return None;
         }
+        let place = attribute(text);
+        self.rest = &text[place.end..];
+        Some(WrittenAttribute {
+            name: &text[..place.name],
+            value: &text[place.value..place.value_end],
+        })
     }
 }

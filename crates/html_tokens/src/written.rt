@@ -1,6 +1,6 @@
 //! Names and attributes of tags as the text writes them. They borrow the text, and take no memory but for a value that isn't written
 //! as it reads.
-ghost use Rattle.std.specs.Prelude.{◌≡◌, true, chars, IfOk};
+ghost use Rattle.std.specs.Prelude.{◌≡◌, true, chars, string_bytes, IfOk};
 ghost use Rattle.std.specs.List.{list_all};
 ghost use Rattle.html_syntax.specs.States.{same};
 ghost use Rattle.std.specs.Cow.{cow_str_bytes};
@@ -44,6 +44,15 @@ impl<'t> WrittenName<'t> {
     {
         is_word(self.text, word)
     }
+
+    /// Returns the name's characters.
+    pub fn to_string(&self, alloc: Global) -> Result<String, Memory>
+        ensures { IfOk result (λ name. chars (string_bytes name) ≡ self.now) }
+    {
+        let mut name = read_stretch(alloc, ReadAs::Raw, self.text)?;
+        name.make_ascii_lowercase();
+        Ok(name)
+    }
 }
 
 /// An attribute of a start tag, seen as its name and its value.
@@ -62,17 +71,6 @@ impl<'t> Model for WrittenAttribute<'t> {
     ghost view = { λ a. record { name = read_name a.name.now; value = read_value a.value.now } };
 }
 
-/// Returns the characters of a value. They are borrowed if it is written as it reads.
-fn value_text(alloc: Global, written: &str) -> Result<CowStr<'_, Global>, Memory>
-    ensures { IfOk result (λ value. chars (cow_str_bytes value) ≡ read_value written.now) }
-{
-    if is_plain(written) {
-        Ok(CowStr::Borrowed(written))
-    } else {
-        Ok(CowStr::Owned(read_stretch(alloc, ReadAs::Value, written)?))
-    }
-}
-
 impl<'t> WrittenAttribute<'t> {
     /// Returns the attribute's name.
     pub fn name(&self) -> WrittenName<'t>
@@ -85,6 +83,10 @@ impl<'t> WrittenAttribute<'t> {
     pub fn value(&self, alloc: Global) -> Result<CowStr<'t, Global>, Memory>
         ensures { IfOk result (λ value. chars (cow_str_bytes value) ≡ self.now.value) }
     {
-        value_text(alloc, self.value)
+        if is_plain(self.value) {
+            Ok(CowStr::Borrowed(self.value))
+        } else {
+            Ok(CowStr::Owned(read_stretch(alloc, ReadAs::Value, self.value)?))
+        }
     }
 }
