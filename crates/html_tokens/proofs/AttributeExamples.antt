@@ -21,6 +21,11 @@ texts = (codes " a=1 B='x y' a=2>c=3", pair (codes "a") (codes "1") ∷ pair (co
     ∷ (codes " a='>' b=>c", pair (codes "a") (codes ">") ∷ pair (codes "b") [] ∷ [])
     -- references, carriage returns and U+0000 in values
     ∷ (codes " a='&amp;" ++ 13 ∷ 10 ∷ 13 ∷ 0 ∷ codes "'>", pair (codes "a") (codes "&" ++ 10 ∷ 10 ∷ 0xFFFD ∷ []) ∷ [])
+    -- a carriage return is white space, and a form feed; a name in capitals, with U+0000
+    ∷ (13 ∷ codes "A" ++ 0 ∷ codes "=1" ++ 13 ∷ codes "b" ++ 12 ∷ 13 ∷ codes "=" ++ 13 ∷ codes "2>", pair (97 ∷ 0xFFFD ∷ []) (codes "1") ∷ pair (codes "b") (codes "2") ∷ [])
+    -- a quote that isn't closed, and a text that ends in a name
+    ∷ (codes " a=\"b c>", pair (codes "a") (codes "b c>") ∷ [])
+    ∷ (codes " a", pair (codes "a") [] ∷ [])
     ∷ (codes ">", [])
     ∷ (codes " / >a", [])
     ∷ ([], [])
