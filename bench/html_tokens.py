@@ -3,11 +3,11 @@
 
 Build the program first, by `tools/build bench`. Then run this file, from anywhere, and give it the number of times
 that each text is measured (5 by default). html5lib is a package of most systems; without it that figure is left out. A figure is the
-least of those times, in nanoseconds for each byte: of the spans alone, and with the token of each. How many times the newsletter's a
+least of those times, in nanoseconds for each byte: of the spans alone, with each tag read in place, and with the token of each. How many times the newsletter's a
 text's time is, and html5lib's, is the median of pairs that are measured one right after the other, since a machine's pace changes.
 `growth` is how much longer a text takes than one of a tenth of its size, which fits a processor's cache. It ends with status 1 where
 the newsletter is read less than 60 times as fast as by html5lib, where a hostile text takes more than 5 times the newsletter's time for
-each byte, or where one that takes more than the newsletter's takes more than 20 times as long at ten times the size. One tag with millions
+each byte, where reading tags in place takes more than 3 times as long as the spans alone, or where one that takes more than the newsletter's takes more than 20 times as long at ten times the size. One tag with millions
 of different names that don't rise is measured without a bound: each name is sought in a tree that doesn't fit a processor's cache.
 """
 import os
@@ -72,8 +72,18 @@ def shuffled(numbers):
     return numbers
 
 
+def random_names(count):
+    """Five-byte names, drawn at random."""
+    letters = random.Random(2)
+    return b"<a " + b" ".join(bytes(letters.choices(b"abcdefghijklmnopqrstuvwxyz0123456789", k=5)) for _ in range(count)) + b">"
+
+
+def small_tags(count):
+    return (b"<a " + b" ".join(bytes([letter]) for letter in b"abcdefghijklmnop") + b">") * (count // 4)
+
+
 # shapes that are measured without a bound
-UNBOUNDED = {"attributes of many names, falling", "attributes of many names, shuffled"}
+UNBOUNDED = {"attributes of many names, falling", "attributes of many names, shuffled", "attributes of random names", "tags of 16 attributes"}
 
 # a name, what makes the text of a size, and the size
 SHAPES = [
@@ -101,6 +111,8 @@ SHAPES = [
     ("attributes of many names, rising", attributes(counted), MANY),
     ("attributes of many names, falling", attributes(counted, falling), MANY),
     ("attributes of many names, shuffled", attributes(counted, shuffled), MANY),
+    ("attributes of random names", random_names, MANY),
+    ("tags of 16 attributes", small_tags, MANY),
 ]
 
 
@@ -146,8 +158,9 @@ class Newsletter:
 def measure_newsletter(letter, times, missed):
     spans = min(seconds_of("spans", letter.path, 30)[0] for _ in range(times)) * letter.nanoseconds
     grep = min(grep_seconds(letter.path) for _ in range(times)) * letter.nanoseconds
+    tags = min(seconds_of("tags", letter.path, 30)[0] for _ in range(times)) * letter.nanoseconds
     tokens = [letter.tokens() for _ in range(times)]
-    print(f"newsletter of 1 MB: spans {spans:.2f}, tokens {min(tokens):.2f}, grep {grep:.2f}")
+    print(f"newsletter of 1 MB: spans {spans:.2f}, tags {tags:.2f}, tokens {min(tokens):.2f}, grep {grep:.2f}")
     if HTMLTokenizer:
         text = letter.data.decode()
         pairs = [(letter.tokens(), html5lib_seconds(text) * letter.nanoseconds) for _ in range(2 * times)]
@@ -161,14 +174,17 @@ def measure_shape(name, data, tenth, letter, folder, times, missed):
     path, small = stored(folder, "text", data), stored(folder, "tenth", tenth)
     nanoseconds = 1e9 / len(data)
     spans, count = seconds_of("spans", path, times)
+    tags = seconds_of("tags", path, times)[0]
     runs = [(letter.tokens(), seconds_of("tokens", path, 1)[0], seconds_of("tokens", small, 2)[0]) for _ in range(times)]
     more = statistics.median(tokens * nanoseconds / base for base, tokens, _ in runs)
     growth = statistics.median(tokens / few for _, tokens, few in runs)
     print(
-        f"{name:36} spans {spans * nanoseconds:6.2f}  tokens {min(tokens for _, tokens, _ in runs) * nanoseconds:6.2f}"
+        f"{name:36} spans {spans * nanoseconds:6.2f}  tags {tags * nanoseconds:6.2f}  tokens {min(tokens for _, tokens, _ in runs) * nanoseconds:6.2f}"
         f"  {more:5.2f} times the newsletter  growth {growth:5.1f}  grep {grep_seconds(path) * nanoseconds:5.2f}"
         f"  ({count} spans of {len(data):,} bytes)"
     )
+    if tags > 3 * spans:
+        missed.append(f"{name}: reading tags in place takes more than 3 times as long as the spans")
     if name in UNBOUNDED:
         return
     if more > 5:

@@ -22,7 +22,7 @@ use work::{Input, Work, perform, result_of, work_named};
 const USAGE: &str = "usage: bench WORK [TIMES]
        bench stream-base64|check
 works: decode-base64 decode-quoted encode-base64 encode-quoted tree
-       responses[-1|-64|-4096] read-flowed[-del-sp] write-flowed[-quoted] spans tokens print-tokens";
+       responses[-1|-64|-4096] read-flowed[-del-sp] write-flowed[-quoted] spans tags tokens print-tokens";
 
 /// Writes the microseconds of each run to standard error, and then the result.
 fn run(rt: &HostRuntime, work: Work, times: u32) -> io::Result<()> {

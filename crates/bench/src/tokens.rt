@@ -1,6 +1,6 @@
 //! The tokens of an HTML text.
 
-use html_tokens::{Memory, Scanner, read_tokens};
+use html_tokens::{Memory, Part, Scanner, StartTag, read_tokens};
 use std::alloc::Global;
 
 /// The line between two texts, and after the tokens of each.
@@ -33,6 +33,35 @@ pub fn count_tokens(alloc: Global, text: &str) -> Result<usize, Memory> {
         }
     }
     Ok(count)
+}
+
+/// The number of attributes of all tags, which are read in place.
+pub fn count_attributes(text: &str) -> usize {
+    let mut scanner = Scanner::new(text);
+    let mut count: usize = 0;
+    for _ in 0..text.len() {
+        let Some(span) = scanner.next() else {
+            break;
+        };
+        if let Part::StartTag = span.part() {
+            let tag = scanner.start_tag(&span);
+            count = count.saturating_add(attributes_of(&tag, text.len()));
+        }
+    }
+    count
+}
+
+/// The number of attributes of a tag, at most `most`.
+fn attributes_of(tag: &StartTag<'_>, most: usize) -> usize {
+    let mut reader = tag.attributes();
+    let mut count = 0;
+    for i in 0..most {
+        if reader.next().is_none() {
+            break;
+        }
+        count = i + 1;
+    }
+    count
 }
 
 /// The tokens of texts, one a line, and `====` after those of each text.

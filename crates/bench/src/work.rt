@@ -16,6 +16,7 @@ pub enum Work {
     ReadFlowed { del_sp: bool },
     WriteFlowed { depth: u32 },
     Spans,
+    Tags,
     Tokens,
     PrintTokens,
 }
@@ -52,13 +53,14 @@ pub fn work_named(word: &str) -> Option<Work> {
         "write-flowed" => Some(Work::WriteFlowed { depth: 0 }),
         "write-flowed-quoted" => Some(Work::WriteFlowed { depth: 80 }),
         "spans" => Some(Work::Spans),
+        "tags" => Some(Work::Tags),
         "tokens" => Some(Work::Tokens),
         "print-tokens" => Some(Work::PrintTokens),
         _ => None,
     }
 }
 
-/// Does the work once, and returns how many bytes, parts, responses, paragraphs, spans or tokens came of it.
+/// Does the work once, and returns how many bytes, parts, responses, paragraphs, spans, attributes or tokens came of it.
 pub fn perform(alloc: Global, work: Work, input: &Input<'_>) -> Result<usize, AllocError> {
     match work {
         Work::Decode(_) | Work::EncodeBase64 | Work::EncodeQuoted => {
@@ -69,6 +71,7 @@ pub fn perform(alloc: Global, work: Work, input: &Input<'_>) -> Result<usize, Al
         Work::ReadFlowed { del_sp } => flowed::count_paragraphs(alloc, input.text, del_sp),
         Work::WriteFlowed { depth } => flowed::written_len(alloc, input.text, depth),
         Work::Spans => Ok(tokens::count_spans(input.text)),
+        Work::Tags => Ok(tokens::count_attributes(input.text)),
         Work::Tokens => tokens::count_tokens(alloc, input.text),
         Work::PrintTokens => Ok(tokens::print_tokens(alloc, input.text)?.len()),
     }
@@ -85,7 +88,11 @@ pub fn result_of(alloc: Global, work: Work, input: &Input<'_>) -> Result<Vec<u8>
             Ok(responses::list_counts(alloc, input.bytes, piece)?.into_bytes())
         }
         Work::PrintTokens => Ok(tokens::print_tokens(alloc, input.text)?.into_bytes()),
-        Work::ReadFlowed { .. } | Work::WriteFlowed { .. } | Work::Spans | Work::Tokens => {
+        Work::ReadFlowed { .. }
+        | Work::WriteFlowed { .. }
+        | Work::Spans
+        | Work::Tags
+        | Work::Tokens => {
             let count = perform(alloc, work, input)?;
             Ok(format!(in alloc; "{count}\n")?.into_bytes())
         }

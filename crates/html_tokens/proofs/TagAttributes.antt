@@ -1,6 +1,6 @@
 -- Attributes one after the other.
 use Rattle.std.proofs.Common.{◌≡◌, ℕ, ◌+◌, ◌-◌, ◌<◌, ◌≤◌, Bool, true, ◌||◌, ◌==◌, List, [], ◌∷◌, length, take, drop, refl, sym, ap, subst, ◌∙◌, arith, inl, inr, IsUtf8, IsCharBoundary, Some, None}
-use Rattle.std.proofs.lemmas.Bool.{cases_Bool, cases_lt, eqb-true}
+use Rattle.std.proofs.lemmas.Bool.{cases_Bool, eqb-true}
 use Rattle.std.proofs.lemmas.Bool.Decides.{nat_tests}
 use Rattle.std.proofs.lemmas.List.{drop-drop, drop_more, length-drop}
 use Rattle.std.proofs.lemmas.Str.{IsUtf8-take, IsCharBoundary-from_rest, IsCharBoundary-after_ascii}
@@ -11,7 +11,7 @@ use Rattle.html_syntax.specs.States.State.{BeforeName, AfterName, BeforeValue}
 use Rattle.html_syntax.specs.Tokenizer.{read}
 use Rattle.html_references.specs.Input.{input, decode_references}
 use Rattle.html_tokens.specs.Scanned.{slice_between}
-use Rattle.html_tokens.specs.Tags.{in_class, read_name, read_value, BeginsOutside, BeginsAttribute, ReadsAttributeAt, ReadsEqualsBefore, EndsTag, TagEndsAfter, ReadsAttributes, keep_attribute, add_attribute, attribute_at, ReadsUpTo, with_attributes, tokens_after_tag}
+use Rattle.html_tokens.specs.Tags.{in_class, read_name, read_value, BeginsOutside, BeginsAttribute, ReadsAttributeAt, ReadsEqualsBefore, EndsTag, TagEndsAfter, keep_attribute, add_attribute, attribute_at, with_attributes, tokens_after_tag}
 use Rattle.html_tokens.specs.declared.tags.AttributePlace.{AttributePlace}
 use Rattle.html_tokens.specs.declared.tags.Class.TheVariants as class
 use Rattle.html_references.proofs.Stretches.{input-nil, input-cons}
@@ -65,7 +65,7 @@ gap_bytes_small b h = grind (arith, nat_tests)
 
 -- ---- one attribute after the other
 
-keeping_among : (t : Tag) (attributes : List Attribute) (a : Attribute) → keep_attribute (with_attributes t attributes) a ≡ with_attributes t (add_attribute attributes a)
+pub keeping_among : (t : Tag) (attributes : List Attribute) (a : Attribute) → keep_attribute (with_attributes t attributes) a ≡ with_attributes t (add_attribute attributes a)
 keeping_among t attributes a = elim (cases_Bool (has_name a.name attributes)) [
   | inl is ↦ rw is refl
   | inr other ↦ rw other refl
@@ -92,21 +92,13 @@ pub passed_first : (rest : List ℕ) (at : ℕ) → IsCharBoundary rest at → B
     → ((t : Tag) → read (BeforeName t) 0 (input rest) ≡ read (BeforeName t) 0 (input (drop at rest))) → Passed rest at
 passed_first rest at boundary next reads = record { boundary = boundary; next = next; reads = λ t. (t.attributes, reads t) }
 
-pub passed_next : (rest : List ℕ) (at : ℕ) (place : AttributePlace) → IsCharBoundary (drop at rest) place.end → BeginsOutside (in_class class.Gap) (drop place.end (drop at rest))
-    → ReadsAttributeAt (drop at rest) place → Passed rest at → Passed rest (at + place.end)
-passed_next rest at place boundary next holds before = record {
-  boundary = later rest at place.end before.boundary boundary;
-  next = subst (BeginsOutside (in_class class.Gap)) (drop-drop place.end at rest) next;
-  reads = λ t. (add_attribute (before.reads t).0 (attribute_at (drop at rest) place), attributes_more t (before.reads t).0 rest at place (before.reads t).1 holds);
-}
-
 -- ---- the tag's end
 
-tag_closes : (t : Tag) (bytes : List ℕ) → EndsTag bytes → 0 < length bytes → read (BeforeName t) 0 (input bytes) ≡ tokens_after_tag t (input (drop 1 bytes))
+pub tag_closes : (t : Tag) (bytes : List ℕ) → EndsTag bytes → 0 < length bytes → read (BeforeName t) 0 (input bytes) ≡ tokens_after_tag t (input (drop 1 bytes))
 tag_closes t [] ends some = absurd (omega arith)
 tag_closes t (b ∷ bytes) ends some = rw (ends, input-cons 62 bytes (omega arith) (λ (e : 62 ≡ 13). omega arith)) (before_end t (input bytes))
 
-tag_open : (t : Tag) (bytes : List ℕ) → length bytes ≡ 0 → read (BeforeName t) 0 (input bytes) ≡ []
+pub tag_open : (t : Tag) (bytes : List ℕ) → length bytes ≡ 0 → read (BeforeName t) 0 (input bytes) ≡ []
 tag_open t [] none = rw input-nil (before_nil t)
 tag_open t (b ∷ bytes) none = absurd cc
 
@@ -123,32 +115,3 @@ never_closes rest at p past = λ t. (p.reads t).1 ∙ tag_open (with_attributes 
 
 pub closing_boundary : (rest : List ℕ) (at : ℕ) → IsUtf8 rest → IsCharBoundary rest at → EndsTag (drop at rest) → at < length rest → IsCharBoundary rest (at + 1)
 closing_boundary rest at utf8 here ends lt = IsCharBoundary-after_ascii rest at utf8 lt (omega (arith, subst EndsTag (drop_more rest at 0 lt) ends))
-
--- ---- which attributes
-
-without_attributes : (t : Tag) → t.attributes ≡ [] → t ≡ with_attributes t []
-without_attributes t none = ap (with_attributes t) none
-
-pub listed_first : (rest : List ℕ) (at : ℕ) → IsCharBoundary rest at → BeginsOutside (in_class class.Gap) (drop at rest)
-    → ((t : Tag) → read (BeforeName t) 0 (input rest) ≡ read (BeforeName t) 0 (input (drop at rest))) → ReadsUpTo rest at []
-listed_first rest at boundary next reads = record {
-  boundary = boundary;
-  next = next;
-  reads = λ t none. reads t ∙ ap (λ (x : Tag). read (BeforeName x) 0 (input (drop at rest))) (without_attributes t none);
-}
-
-pub listed_next : (rest : List ℕ) (at : ℕ) (attributes : List Attribute) (place : AttributePlace) → IsCharBoundary (drop at rest) place.end → BeginsOutside (in_class class.Gap) (drop place.end (drop at rest))
-    → ReadsAttributeAt (drop at rest) place → ReadsUpTo rest at attributes → ReadsUpTo rest (at + place.end) (add_attribute attributes (attribute_at (drop at rest) place))
-listed_next rest at attributes place boundary next holds before = record {
-  boundary = later rest at place.end before.boundary boundary;
-  next = subst (BeginsOutside (in_class class.Gap)) (drop-drop place.end at rest) next;
-  reads = λ t none. attributes_more t attributes rest at place (before.reads t none) holds;
-}
-
-pub listed_last : (rest : List ℕ) (at : ℕ) (attributes : List Attribute) → ReadsUpTo rest at attributes → EndsTag (drop at rest) → ReadsAttributes rest attributes
-listed_last rest at attributes p ends = λ t none. elim (cases_lt at (length rest)) [
-  | inl lt ↦
-      let some : 0 < length (drop at rest) = omega (arith, length-drop at rest) in
-      inr (at + 1, p.reads t none ∙ tag_closes (with_attributes t attributes) (drop at rest) ends some ∙ ap (λ (l : List ℕ). tokens_after_tag (with_attributes t attributes) (input l)) (drop-drop 1 at rest))
-  | inr past ↦ inl (p.reads t none ∙ tag_open (with_attributes t attributes) (drop at rest) (length-drop at rest ∙ omega arith))
-]

@@ -1,33 +1,17 @@
-//! The names and attributes of tags.
-ghost use Rattle.std.specs.Prelude.{◌≡◌, ◌≤◌, List, [], ◌∷◌, ◌++◌, chars, string_bytes, map, IfOk, OnOk, IsCharBoundary};
+//! The attributes of a start tag's token: of each name the first.
+ghost use Rattle.std.specs.Prelude.{◌≡◌, List, [], chars, map, IfOk, OnOk};
 ghost use Rattle.html_syntax.specs.Token.{attribute_of};
 ghost use Rattle.html_syntax.specs.States.{has_name};
-ghost use Rattle.html_tokens.specs.Tags.{read_name, add_attribute, attribute_at, ReadsAttributes, ReadsUpTo};
+ghost use Rattle.html_tokens.specs.Tags.{add_attribute};
+ghost use Rattle.html_tokens.specs.Attributes.{first_of_each, add_all};
 
 use crate::Memory;
 use crate::name_set::NameSet;
-use crate::tags::{AttributePlace, attribute, begins_attribute, gap_len};
-use html_references::stretch::{ReadAs, read_stretch};
+use crate::start_tag::AttributeReader;
+use crate::written::WrittenAttribute;
 use html_syntax::Attributes;
-use mail_values::Text;
 use std::alloc::Global;
 use std::marker::Model;
-
-/// Returns a name: ASCII letters lowered, U+0000 as U+FFFD.
-fn name_text(alloc: Global, name: &str) -> Result<String, Memory>
-    ensures { IfOk result (λ t. chars (string_bytes t) ≡ read_name name.now) }
-{
-    let mut text = read_stretch(alloc, ReadAs::Raw, name)?;
-    text.make_ascii_lowercase();
-    Ok(text)
-}
-
-/// Returns the name of a tag: ASCII letters lowered, U+0000 as U+FFFD.
-pub fn tag_name(alloc: Global, name: &str) -> Result<Text, Memory>
-    ensures { IfOk result (λ t. chars t ≡ read_name name.now) }
-{
-    Ok(Text::from_string(name_text(alloc, name)?))
-}
 
 /// Up to this number, a new name is compared with each name before it. A tag with more attributes has a set of their names.
 const FEW: usize = 16;
@@ -44,43 +28,39 @@ fn is_among(pairs: &[(String, String)], name: &str) -> bool
     false
 }
 
-/// Adds the attribute at a place of the text if its name is new.
+/// Adds an attribute if its name is new.
 fn keep(
     alloc: Global,
     pairs: &mut Vec<(String, String)>,
-    rest: &str,
-    place: AttributePlace,
+    attribute: &WrittenAttribute<'_>,
 ) -> Result<(), Memory>
-    requires name { IsCharBoundary rest.now place.name }
-    requires value { IsCharBoundary rest.now place.value }
-    requires value_end { IsCharBoundary rest.now place.value_end }
-    requires ordered { place.value ≤ place.value_end }
-    ensures { OnOk result (map attribute_of pairs.new.items ≡ add_attribute (map attribute_of pairs.old.items) (attribute_at rest.now place)) }
+    ensures { OnOk result (map attribute_of pairs.new.items ≡ add_attribute (map attribute_of pairs.old.items) attribute.now) }
 {
-    let name = name_text(alloc, &rest[..place.name])?;
+    let name = attribute.name().to_string(alloc)?;
     if !is_among(pairs, name.as_str()) {
-        let value = read_stretch(alloc, ReadAs::Value, &rest[place.value..place.value_end])?;
+        let value = attribute.value(alloc)?.into_owned(alloc)?;
         pairs.push((name, value))?;
     }
     Ok(())
 }
 
-/// Attributes of a start tag, from just after its name; of duplicates the first wins. `expected` is a capacity hint.
-pub fn attributes(alloc: Global, rest: &str, expected: usize) -> Result<Attributes, Memory>
-    ensures { IfOk result (λ found. ReadsAttributes rest.now found) }
+/// Returns the first attribute of each name. `expected` is a capacity hint.
+pub fn attributes(
+    alloc: Global,
+    reader: AttributeReader<'_>,
+    expected: usize,
+) -> Result<Attributes, Memory>
+    ensures { IfOk result (λ found. found ≡ first_of_each reader.entry) }
 {
+    let mut reader = reader;
     let mut pairs = Vec::with_capacity(alloc, expected.min(FEW))?;
-    let mut at = gap_len(rest);
-    while pairs.len() < FEW && begins_attribute(&rest[at..]) {
-        let place = attribute(&rest[at..]);
-        keep(alloc, &mut pairs, &rest[at..], place)?;
-        at += place.end;
+    while pairs.len() < FEW {
+        match reader.next() {
+            Some(attribute) => keep(alloc, &mut pairs, &attribute)?,
+            None => return Ok(Attributes::from_pairs(pairs)),
+        }
     }
-    if begins_attribute(&rest[at..]) {
-        more_attributes(alloc, pairs, rest, at)
-    } else {
-        Ok(Attributes::from_pairs(pairs))
-    }
+    more_attributes(alloc, pairs, reader)
 }
 
 /// The attributes of a tag so far, the first of each name, with the set of their names.
@@ -114,52 +94,37 @@ impl AttributeList {
         Ok(AttributeList { pairs, names })
     }
 
-    /// Adds the attribute at a place of the text if its name is new.
-    fn keep(self, alloc: Global, rest: &str, place: AttributePlace) -> Result<Self, Memory>
-        requires name { IsCharBoundary rest.now place.name }
-        requires value { IsCharBoundary rest.now place.value }
-        requires value_end { IsCharBoundary rest.now place.value_end }
-        requires ordered { place.value ≤ place.value_end }
-        ensures { IfOk result (λ list. list ≡ add_attribute self (attribute_at rest.now place)) }
+    /// Adds an attribute if its name is new.
+    fn keep(self, alloc: Global, attribute: &WrittenAttribute<'_>) -> Result<Self, Memory>
+        ensures { IfOk result (λ list. list ≡ add_attribute self attribute.now) }
     {
         let AttributeList {
             mut pairs,
             mut names,
         } = self;
-        let name = name_text(alloc, &rest[..place.name])?;
+        let name = attribute.name().to_string(alloc)?;
         let is_new = names.insert(alloc, name.as_str())?;
         if is_new {
-            let value = read_stretch(alloc, ReadAs::Value, &rest[place.value..place.value_end])?;
+            let value = attribute.value(alloc)?.into_owned(alloc)?;
             pairs.push((name, value))?;
         }
         Ok(AttributeList { pairs, names })
     }
-
-    /// Returns the attributes.
-    fn finish(self) -> Attributes
-        ensures { result ≡ self }
-    {
-        let AttributeList { pairs, .. } = self;
-        Attributes::from_pairs(pairs)
-    }
 }
 
-/// Returns the attributes that were read and those from an offset on.
+/// Returns the attributes that were read, with those that are left.
 fn more_attributes(
     alloc: Global,
     pairs: Vec<(String, String)>,
-    rest: &str,
-    from: usize,
+    reader: AttributeReader<'_>,
 ) -> Result<Attributes, Memory>
-    requires { ReadsUpTo rest.now from (map attribute_of pairs.items) }
-    ensures { IfOk result (λ found. ReadsAttributes rest.now found) }
+    ensures { IfOk result (λ found. found ≡ add_all (map attribute_of pairs.items) reader.entry) }
 {
+    let mut reader = reader;
     let mut list = AttributeList::of(alloc, pairs)?;
-    let mut at = from;
-    while begins_attribute(&rest[at..]) {
-        let place = attribute(&rest[at..]);
-        list = list.keep(alloc, &rest[at..], place)?;
-        at += place.end;
+    while let Some(attribute) = reader.next() {
+        list = list.keep(alloc, &attribute)?;
     }
-    Ok(list.finish())
+    let AttributeList { pairs, .. } = list;
+    Ok(Attributes::from_pairs(pairs))
 }

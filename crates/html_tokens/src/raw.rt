@@ -98,11 +98,3 @@ pub fn content_end(content: Content, rest: &str) -> usize
         _ => element_end(content, rest),
     }
 }
-
-/// The length of plaintext, which has no end tag.
-pub fn plaintext_end(rest: &str) -> usize
-    ensures all { result ≡ length rest.now }
-    ensures reads { read Plaintext 0 (input rest.now) ≡ char_tokens (read_as reads.Raw (input rest.now)) }
-{
-    rest.len()
-}

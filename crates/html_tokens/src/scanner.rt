@@ -1,18 +1,24 @@
 //! The scanner: spans of tokens, and tokens on demand.
-ghost use Rattle.std.specs.Prelude.{◌≡◌, ◌≢◌, ◌≤◌, ◌++◌, [], true, zero, take, IfOk, IfSome, None, MatchOption, chars};
+ghost use Rattle.std.specs.Prelude.{◌≡◌, ◌≢◌, ◌≤◌, ◌++◌, ◌∷◌, [], true, false, zero, take, IfOk, IsOk, IfSome, None, MatchOption, chars};
 ghost use Rattle.html_syntax.specs.States.State.{Data as InData};
-ghost use Rattle.html_syntax.specs.Tokenizer.{read};
+ghost use Rattle.html_syntax.specs.Tokenizer.{read, chars as char_tokens};
 ghost use Rattle.html_syntax.specs.Held.{meaning};
 ghost use Rattle.html_references.specs.Input.{input, read_as as what_is_read};
+ghost use Rattle.html_syntax.specs.Token.Token.{Start, End};
+ghost use Rattle.html_tokens.specs.Attributes.{first_of_each};
+ghost use Rattle.html_tokens.specs.Lexemes.{lexeme_tokens, is_lent, is_plain_run, span_bytes, LendsBytes};
 ghost use Rattle.html_tokens.specs.Scanned.{tokens_left, span_tokens, IsSpan, GivesToken, opens_start, opens_end};
 ghost use Rattle.html_tokens.specs.Stepping.{SkipsNoToken, RunEndsAtMarkup, RunBeginsOutsideMarkup, RunLeavesData};
 ghost use Rattle.html_tokens.specs.declared.mode.Mode.TheVariants.{Data};
 
-use crate::attribute_list::{attributes, tag_name};
+use crate::attribute_list::attributes;
+use crate::lexeme::{Lexeme, is_plain};
 use crate::mode::Mode;
 use crate::span::{Part, Span};
+use crate::start_tag::StartTag;
 use crate::step::step_at;
-use crate::tags::{name_end, tag_end};
+use crate::tags::name_end;
+use crate::written::WrittenName;
 use crate::{Memory, Token};
 use html_references::stretch::{ReadAs, read_stretch};
 use mail_values::Text;
@@ -82,69 +88,87 @@ impl<'t> Scanner<'t> {
         }
     }
 
+    /// Lends a run of characters that has no `&`, CR and U+0000, which takes no memory. Any other span's token is made.
+    pub fn piece(&self, alloc: Global, span: &Span) -> Result<Lexeme<'t>, Memory>
+        requires { IsSpan self.now.text span.now }
+        ensures tokens { IfOk result (λ piece. lexeme_tokens piece ≡ span_tokens self.now.text span.now) }
+        ensures lent { IfOk result (λ piece. is_lent piece ≡ is_plain_run self.now.text span.now) }
+        ensures lends { IfOk result (λ piece. LendsBytes (span_bytes self.now.text span.now) piece) }
+        ensures succeeds { is_plain_run self.now.text span.now ≡ true → IsOk result }
+    {
+        let Part::Run(_) = span.part else {
+            return Ok(Lexeme::Made(self.token(alloc, span)?));
+        };
+        let run = &self.text[span.start..span.end];
+        if is_plain(run) {
+            Ok(Lexeme::Lent(run))
+        } else {
+            Ok(Lexeme::Made(self.token(alloc, span)?))
+        }
+    }
+
+    /// Returns the start tag of a span in place, with all its attributes. The token has the first of each name.
+    pub fn start_tag(&self, span: &Span) -> StartTag<'t>
+        requires span { IsSpan self.now.text span.now }
+        requires part { span.now.part ≡ Part.StartTag }
+        ensures { span_tokens self.now.text span.now ≡ Start result.name (first_of_each result.attributes) ∷ [] }
+    {
+        let rest = &self.text[span.start..];
+        let inside = &rest[1..];
+        let len = name_end(inside);
+        StartTag {
+            name: &inside[..len],
+            rest: &inside[len..],
+        }
+    }
+
+    /// Returns the name of the end tag of a span in place.
+    pub fn end_tag(&self, span: &Span) -> WrittenName<'t>
+        requires span { IsSpan self.now.text span.now }
+        requires part { span.now.part ≡ Part.EndTag }
+        ensures { span_tokens self.now.text span.now ≡ End result ∷ [] }
+    {
+        let rest = &self.text[span.start..];
+        let inside = &rest[2..];
+        WrittenName {
+            text: &inside[..name_end(inside)],
+        }
+    }
+
     /// Returns the token of a span that this scanner returned.
     pub fn token(&self, alloc: Global, span: &Span) -> Result<Token, Memory>
         requires { IsSpan self.now.text span.now }
         ensures { IfOk result (λ token. meaning token ≡ span_tokens self.now.text span.now) }
     {
-        token_at(alloc, self.text, span)
+        match span.part {
+            Part::Run(read_as) => {
+                let run = read_stretch(alloc, read_as, &self.text[span.start..span.end])?;
+                Ok(Token::Chars(Text::from_string(run)))
+            }
+            Part::StartTag => start_token(alloc, &self.start_tag(span), span.end - span.start),
+            Part::EndTag => {
+                let name = self.end_tag(span).to_string(alloc)?;
+                Ok(Token::End {
+                    name: Text::from_string(name),
+                })
+            }
+            Part::Comment(from, to) => {
+                let comment = read_stretch(alloc, ReadAs::Raw, &self.text[from..to])?;
+                Ok(Token::Comment(Text::from_string(comment)))
+            }
+            Part::Doctype => Ok(Token::Doctype),
+        }
     }
 }
 
 /// The usual least length of an attribute in bytes.
 const USUAL_ATTRIBUTE: usize = 12;
 
-/// Returns the characters of a stretch.
-fn stretch_token(alloc: Global, read_as: ReadAs, stretch: &str) -> Result<Text, Memory>
-    ensures { IfOk result (λ text. chars text ≡ what_is_read read_as (input stretch.now)) }
+/// Returns the token of a start tag of `len` bytes.
+fn start_token(alloc: Global, tag: &StartTag<'_>, len: usize) -> Result<Token, Memory>
+    ensures { IfOk result (λ token. meaning token ≡ Start tag.now.name (first_of_each tag.now.attributes) ∷ []) }
 {
-    Ok(Text::from_string(read_stretch(alloc, read_as, stretch)?))
-}
-
-/// Returns the start tag that a text begins with, of `len` bytes.
-fn start_token(alloc: Global, rest: &str, len: usize) -> Result<Token, Memory>
-    requires opens { opens_start rest.now ≡ true }
-    requires gives { GivesToken rest.now }
-    ensures { IfOk result (λ token. meaning token ≡ take 1 (read InData 0 (input rest.now))) }
-{
-    let inside = &rest[1..];
-    let name_len = name_end(inside);
-    let name = tag_name(alloc, &inside[..name_len])?;
-    let attributes = attributes(alloc, &inside[name_len..], len / USUAL_ATTRIBUTE)?;
+    let name = Text::from_string(tag.name().to_string(alloc)?);
+    let attributes = attributes(alloc, tag.attributes(), len / USUAL_ATTRIBUTE)?;
     Ok(Token::Start { name, attributes })
-}
-
-/// Returns the end tag that a text begins with.
-fn end_token(alloc: Global, rest: &str) -> Result<Token, Memory>
-    requires opens { opens_end rest.now ≡ true }
-    requires gives { GivesToken rest.now }
-    ensures { IfOk result (λ token. meaning token ≡ take 1 (read InData 0 (input rest.now))) }
-{
-    let inside = &rest[2..];
-    let len = name_end(inside);
-    let name = tag_name(alloc, &inside[..len])?;
-    match tag_end(&inside[len..]) {
-        Some(_) => Ok(Token::End { name }),
-        None => unreachable!(),
-    }
-}
-
-/// Returns the token of a span.
-fn token_at(alloc: Global, text: &str, span: &Span) -> Result<Token, Memory>
-    requires { IsSpan text.now span.now }
-    ensures { IfOk result (λ token. meaning token ≡ span_tokens text.now span.now) }
-{
-    match span.part {
-        Part::Run(read_as) => {
-            let run = stretch_token(alloc, read_as, &text[span.start..span.end])?;
-            Ok(Token::Chars(run))
-        }
-        Part::StartTag => start_token(alloc, &text[span.start..], span.end - span.start),
-        Part::EndTag => end_token(alloc, &text[span.start..]),
-        Part::Comment(from, to) => {
-            let comment = stretch_token(alloc, ReadAs::Raw, &text[from..to])?;
-            Ok(Token::Comment(comment))
-        }
-        Part::Doctype => Ok(Token::Doctype),
-    }
 }

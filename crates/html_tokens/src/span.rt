@@ -23,20 +23,14 @@ pub struct Span {
     pub(crate) part: Part,
 }
 
-impl Part {
-    // The same in a text that has `by` more bytes before it.
-    fn shift(self, by: usize) -> Part
-        requires { by + part_bound self < 2 ^ 64 }
-        ensures { result ≡ shift_part by self }
-    {
-        match self {
-            Part::Comment(from, to) => Part::Comment(by + from, by + to),
-            part => part,
-        }
-    }
-}
-
 impl Span {
+    /// Returns the kind of the span's token.
+    pub fn part(&self) -> Part
+        ensures { result ≡ self.now.part }
+    {
+        self.part
+    }
+
     // The same in a text that has `by` more bytes before it.
     pub(crate) fn shift(self, by: usize) -> Span
         requires end { by + self.end < 2 ^ 64 }
@@ -49,7 +43,10 @@ impl Span {
         Span {
             start: by + self.start,
             end: by + self.end,
-            part: self.part.shift(by),
+            part: match self.part {
+                Part::Comment(from, to) => Part::Comment(by + from, by + to),
+                part => part,
+            },
         }
     }
 }

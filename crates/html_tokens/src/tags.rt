@@ -7,6 +7,7 @@ ghost use Rattle.html_syntax.specs.States.State.{TagName, BeforeName, AfterName,
 ghost use Rattle.html_syntax.specs.Tokenizer.{read};
 ghost use Rattle.html_references.specs.Input.{input};
 ghost use Rattle.html_tokens.specs.Scanned.{slice_between};
+ghost use Rattle.html_tokens.specs.Attributes.{name_len, equals_end, quoted_place, bare_place, first_value, value_place, attribute_place};
 ghost use Rattle.html_tokens.specs.declared.tags.Class.TheVariants.{Gap};
 ghost use Rattle.html_tokens.specs.Tags.{in_class, is_blank, read_name, BeginsOutside, BeginsAttribute, EndsTag, begins_quoted, ReadsValueAt, ReadsEqualsBefore, ReadsAttributeAt, TagEndsAfter, extend_name, with_attributes, tokens_after_tag};
 
@@ -63,16 +64,6 @@ pub fn name_end(rest: &str) -> usize
     prefix_len(Class::TagName, rest.as_bytes())
 }
 
-/// The length of the attribute's name that a text begins with. Its first character may be a `=`.
-fn attribute_name_end(rest: &str) -> usize
-    requires { BeginsAttribute rest.now }
-    ensures boundary { IsCharBoundary rest.now result }
-    ensures nonempty { 0 < result }
-    ensures reads { (tag : Tag) → read (BeforeName tag) 0 (input rest.now) ≡ read (AfterName tag (read_name (take result rest.now))) 0 (input (drop result rest.now)) }
-{
-    1 + prefix_len(Class::AttributeName, &rest.as_bytes()[1..])
-}
-
 /// The place of an attribute's value: its start and end, and the offset after its quotes.
 #[derive(Clone, Copy)]
 pub struct ValuePlace {
@@ -91,55 +82,29 @@ fn is_quoted(rest: &str) -> bool
     }
 }
 
-/// The place of the quoted value that the text begins with. Without a second quote it is the rest of the text.
-fn quoted_value(rest: &str) -> ValuePlace
-    requires { begins_quoted rest.now ≡ true }
-    ensures start { IsCharBoundary rest.now result.start }
-    ensures end { IsCharBoundary rest.now result.end }
-    ensures after { IsCharBoundary rest.now result.after }
-    ensures ordered { result.start ≤ result.end }
-    ensures reads { ReadsValueAt rest.now result }
-{
-    let quote = rest.as_bytes()[0];
-    let inner = cut_at_byte(quote, &rest[1..]);
-    ValuePlace {
-        start: 1,
-        end: 1 + inner.len,
-        after: 1 + inner.end,
-    }
-}
-
-/// The place of the unquoted value that the text begins with.
-fn unquoted_value(rest: &str) -> ValuePlace
-    requires unspaced { BeginsOutside is_blank rest.now }
-    requires unquoted { begins_quoted rest.now ≡ false }
-    ensures start { IsCharBoundary rest.now result.start }
-    ensures end { IsCharBoundary rest.now result.end }
-    ensures after { IsCharBoundary rest.now result.after }
-    ensures ordered { result.start ≤ result.end }
-    ensures reads { ReadsValueAt rest.now result }
-{
-    let len = prefix_len(Class::UnquotedValue, rest.as_bytes());
-    ValuePlace {
-        start: 0,
-        end: len,
-        after: len,
-    }
-}
-
-/// The place of the value that the text begins with.
+/// The place of the value that the text begins with. A value without its second quote is the rest of the text.
 fn value_at_start(rest: &str) -> ValuePlace
     requires { BeginsOutside is_blank rest.now }
     ensures start { IsCharBoundary rest.now result.start }
     ensures end { IsCharBoundary rest.now result.end }
     ensures after { IsCharBoundary rest.now result.after }
     ensures ordered { result.start ≤ result.end }
-    ensures reads { ReadsValueAt rest.now result }
+    ensures place { result ≡ first_value rest.now }
 {
     if is_quoted(rest) {
-        quoted_value(rest)
+        let inner = cut_at_byte(rest.as_bytes()[0], &rest[1..]);
+        ValuePlace {
+            start: 1,
+            end: 1 + inner.len,
+            after: 1 + inner.end,
+        }
     } else {
-        unquoted_value(rest)
+        let len = prefix_len(Class::UnquotedValue, rest.as_bytes());
+        ValuePlace {
+            start: 0,
+            end: len,
+            after: len,
+        }
     }
 }
 
@@ -149,7 +114,7 @@ fn value_after_equals(rest: &str) -> ValuePlace
     ensures end { IsCharBoundary rest.now result.end }
     ensures after { IsCharBoundary rest.now result.after }
     ensures ordered { result.start ≤ result.end }
-    ensures reads { ReadsValueAt rest.now result }
+    ensures place { result ≡ value_place rest.now }
 {
     let at = prefix_len(Class::Space, rest.as_bytes());
     let place = value_at_start(&rest[at..]);
@@ -163,7 +128,7 @@ fn value_after_equals(rest: &str) -> ValuePlace
 /// The offset after the `=`, in the text after an attribute's name. `None` if the attribute has no value.
 fn skip_equals(rest: &str) -> Option<usize>
     ensures boundary { IfSome result (λ n. IsCharBoundary rest.now n) }
-    ensures reads { ReadsEqualsBefore rest.now result }
+    ensures place { result ≡ equals_end rest.now }
 {
     let at = prefix_len(Class::Space, rest.as_bytes());
     if at < rest.len() && rest.as_bytes()[at] == b'=' {
@@ -174,7 +139,7 @@ fn skip_equals(rest: &str) -> Option<usize>
 }
 
 /// The place of an attribute in a text that begins with its name: the end of the name, the start and the end of the value, and the
-/// offset of the next attribute or of the tag's end.
+/// attribute's end.
 #[derive(Clone, Copy)]
 pub struct AttributePlace {
     pub name: usize,
@@ -183,8 +148,8 @@ pub struct AttributePlace {
     pub end: usize,
 }
 
-/// The place of the attribute that a text begins with, up to the end of its value.
-fn attribute_alone(rest: &str) -> AttributePlace
+/// The place of the attribute that a text begins with.
+pub fn attribute(rest: &str) -> AttributePlace
     requires { BeginsAttribute rest.now }
     ensures name { IsCharBoundary rest.now result.name }
     ensures value { IsCharBoundary rest.now result.value }
@@ -192,9 +157,10 @@ fn attribute_alone(rest: &str) -> AttributePlace
     ensures end { IsCharBoundary rest.now result.end }
     ensures ordered { result.value ≤ result.value_end }
     ensures nonempty { 0 < result.end }
-    ensures reads { ReadsAttributeAt rest.now result }
+    ensures place { result ≡ attribute_place rest.now }
 {
-    let name = attribute_name_end(rest);
+    // The first character may be a `=`.
+    let name = 1 + prefix_len(Class::AttributeName, &rest.as_bytes()[1..]);
     match skip_equals(&rest[name..]) {
         None => AttributePlace {
             name,
@@ -215,27 +181,9 @@ fn attribute_alone(rest: &str) -> AttributePlace
     }
 }
 
-/// The place of the attribute that a text begins with, up to the next attribute or the tag's end.
-pub fn attribute(rest: &str) -> AttributePlace
-    requires { BeginsAttribute rest.now }
-    ensures name { IsCharBoundary rest.now result.name }
-    ensures value { IsCharBoundary rest.now result.value }
-    ensures value_end { IsCharBoundary rest.now result.value_end }
-    ensures end { IsCharBoundary rest.now result.end }
-    ensures ordered { result.value ≤ result.value_end }
-    ensures nonempty { 0 < result.end }
-    ensures next { BeginsOutside (in_class Gap) (drop result.end rest.now) }
-    ensures reads { ReadsAttributeAt rest.now result }
-{
-    let place = attribute_alone(rest);
-    AttributePlace {
-        end: place.end + gap_len(&rest[place.end..]),
-        ..place
-    }
-}
-
 /// The offset of the next attribute or of the tag's end.
 pub fn gap_len(rest: &str) -> usize
+    ensures value { result ≡ prefix_len (in_class Gap) rest.now }
     ensures boundary { IsCharBoundary rest.now result }
     ensures next { BeginsOutside (in_class Gap) (drop result rest.now) }
     ensures reads { (tag : Tag) → read (BeforeName tag) 0 (input rest.now) ≡ read (BeforeName tag) 0 (input (drop result rest.now)) }
@@ -264,6 +212,7 @@ pub fn tag_end(rest: &str) -> Option<usize>
     let mut at = gap_len(rest);
     while begins_attribute(&rest[at..]) {
         at += attribute(&rest[at..]).end;
+        at += gap_len(&rest[at..]);
     }
     if at < rest.len() { Some(at + 1) } else { None }
 }

@@ -1,7 +1,7 @@
-use Rattle.std.proofs.Common.{ℕ, List, drop, IsCharBoundary, subst, arith}
-use Rattle.html_tokens.specs.Tags.{in_class, BeginsOutside, EndsTag, ReadsAttributeAt}
-use Rattle.html_tokens.specs.declared.tags.Class.TheVariants as class
-use Rattle.html_tokens.proofs.TagAttributes.{passed_first, passed_next, closes_here, never_closes, closing_boundary}
+use Rattle.std.proofs.Common.{drop, sym, subst, ◌∙◌, arith}
+use Rattle.html_tokens.specs.Tags.{BeginsAttribute, EndsTag}
+use Rattle.html_tokens.proofs.TagPlaces.{passed_next}
+use Rattle.html_tokens.proofs.TagAttributes.{passed_first, closes_here, never_closes, closing_boundary}
 use Rattle.html_tokens.proofs.tags.tag_end.Goals as goal
 
 pub loop-at-init : goal.loop-at-init
@@ -9,10 +9,12 @@ loop-at-init c = passed_first c.args.rest.now c.gap_len-at.result c.gap_len-at.e
 
 pub loop-at-preserved : goal.loop-at-preserved
 loop-at-preserved c =
-    let rest_is = c.range_from-in-loop-at.ensures.value in
     let a = c.attribute-at in
-    passed_next c.args.rest.now c.loop-at.at a.result (subst (λ (l : List ℕ). IsCharBoundary l a.result.end) rest_is a.ensures.end)
-    (subst (λ (l : List ℕ). BeginsOutside (in_class class.Gap) (drop a.result.end l)) rest_is a.ensures.next) (subst (λ (l : List ℕ). ReadsAttributeAt l a.result) rest_is a.ensures.reads) c.loop-at.invariant
+    let text = c.range_from-in-loop-at in
+    let after = c.range_from-in-loop-at-2 in
+    let gap = c.gap_len-at-in-loop-at in
+    passed_next c.args.rest.now text.result.now after.result.now c.loop-at.at gap.result a.result text.ensures.value after.ensures.value text.utf8 (subst BeginsAttribute (c.range_from.ensures.value ∙ sym text.ensures.value) (c.begins_attribute.ensures.begins c.loop-at-test.true))
+    a.ensures.place a.ensures.end gap.ensures.boundary gap.ensures.next gap.ensures.reads c.loop-at.invariant
 
 pub returns-then-at-rest-clause-boundary : goal.returns-then-at-rest-clause-boundary
 returns-then-at-rest-clause-boundary c =
