@@ -1,0 +1,4 @@
+//! The attributes of a washed start tag: which of a message's attributes are kept, and with what values.
+//!
+//! The definition is `washed_attributes` in `specs/Attributes.antt`; `specs/Soundness.antt` says what follows from it.
+#![tactic(auto)]
