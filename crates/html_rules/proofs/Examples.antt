@@ -73,8 +73,8 @@ not_message_tokens : map (is_message_token false own) (start_tag (codes "script"
 unfolding is_message_token no message_elements is_message_element is_listed_attribute common_attributes attribute_rows kind_of value_kind_rows is_value_of_attribute is_value_of is_link is_remote
 not_message_tokens = refl
 
--- an attribute of another element, a style, another document type, the end of what has no end
-nor_these : map (is_message_token true own) (start_tag_with (codes "p") (codes "width") (codes "5") ∷ start_tag_with (codes "p") (codes "style") (codes "color: red") ∷ Doctype ∷ End (codes "br") ∷ []) ≡ no
+-- an attribute of another element, an identifier, another document type, the end of what has no end
+nor_these : map (is_message_token true own) (start_tag_with (codes "p") (codes "width") (codes "5") ∷ start_tag_with (codes "p") (codes "id") (codes "x") ∷ Doctype ∷ End (codes "br") ∷ []) ≡ no
 unfolding is_message_token no message_elements is_message_element is_listed_attribute common_attributes attribute_rows kind_of value_kind_rows is_value_of_attribute is_value_of is_void message_void_elements frame_void_elements
 nor_these = refl
 

@@ -5,6 +5,12 @@ use Rattle.html_syntax.specs.References.{begins_with}
 use Rattle.html_syntax.specs.Token.{Attribute, Token}
 use Rattle.html_syntax.specs.Token.Token.{Start, End, Char, Comment, Doctype}
 use Rattle.html_syntax.specs.Tokenizer.{is_among}
+use Rattle.style_wash.specs.Characters.{trimmed}
+use Rattle.style_wash.specs.Tables.{properties, property_of, units, is_unit}
+use Rattle.style_wash.specs.Items.{is_number, is_rgb, is_name, is_plain, item_of}
+use Rattle.style_wash.specs.Values.{parts, separator_of, steps_of, value_in, value_of}
+use Rattle.style_wash.specs.Declarations.{value_after_colon, declaration_of, written, pieces, declarations, style_of, stylewash, is_style}
+use Rattle.html_rules.specs.declared.ValueKind.TheVariants.{Style}
 use Rattle.html_rules.specs.Tables.{Name, words, message_elements, frame_elements, message_void_elements, frame_void_elements, text_only_elements, dropped_elements, common_attributes, attribute_rows, link_attributes, frame_attributes, is_message_element, is_element, is_void, is_listed_attribute, is_frame_attribute_name, value_kind_rows, kind_of}
 use Rattle.html_rules.specs.Values.{is_remote, is_link, is_source, is_value_of, is_value_of_attribute}
 use Rattle.html_rules.specs.Tokens.{start_tag, start_tag_with}
@@ -136,6 +142,18 @@ no_scheme = refl
 
 no_relative_address : is_local_address (codes "part/0/0/1") ≡ false
 no_relative_address = refl
+
+-- ---- styles
+
+-- A style is declarations in their written form. It is not empty, loads nothing, calls nothing, has no escape, no comment and no at-rule, and
+-- is written in one way.
+no_other_styles : list_any (is_value_of true (λ _. true) Style) (codes "" ∷ codes "background: url(x)" ∷ codes "width: expression(1)" ∷ codes "position: fixed" ∷ codes "color: \\72 ed" ∷ codes "color: red /**/" ∷ codes "@import x" ∷ codes "color:red" ∷ codes "COLOR: red" ∷ codes "color: red;" ∷ codes "color: red; " ∷ codes "color: red !important" ∷ codes "color: red; behavior: x" ∷ codes "-moz-binding: x" ∷ codes "x" ∷ []) ≡ false
+unfolding is_value_of is_style stylewash declarations pieces declaration_of value_after_colon value_of value_in parts steps_of item_of is_plain is_number is_rgb is_name separator_of trimmed property_of properties is_unit units written style_of
+no_other_styles = refl
+
+styles : map (is_value_of false (λ _. false) Style) (codes "color: red" ∷ codes "color: red; font-family: 'A B'" ∷ []) ≡ true ∷ true ∷ []
+unfolding is_value_of is_style stylewash declarations pieces declaration_of value_after_colon value_of value_in parts steps_of item_of is_plain is_number is_rgb is_name separator_of trimmed property_of properties is_unit units written style_of
+styles = refl
 
 -- ---- the one place of a message
 

@@ -3,6 +3,7 @@ use Rattle.std.specs.Prelude.{ℕ, zero, suc, Bool, true, false, not, ◌&&◌, 
 use Rattle.std.specs.List.{list_all}
 use Rattle.html_syntax.specs.Characters.{null, space, hyphen, number_sign, is_between, is_digit, is_letter}
 use Rattle.html_syntax.specs.References.{begins_with}
+use Rattle.style_wash.specs.Declarations.{is_style}
 use Rattle.html_rules.specs.Tables.{Name, kind_of}
 use Rattle.html_rules.specs.declared.ValueKind.{ValueKind}
 use Rattle.html_rules.specs.declared.ValueKind.TheVariants.{Number, Word, Flag, Text, Link, Source, Style}
@@ -62,7 +63,7 @@ is_source images own value = own value || (images && is_remote value)
 
 -- ---- kinds
 
--- A value of the kind. No value is of kind Style: a message has no `style` as long as nothing reads declarations.
+-- a value of the kind; that of a style is one or more declarations in their written form
 unfoldable pub is_value_of : Bool → (List ℕ → Bool) → ValueKind → List ℕ → Bool
 is_value_of images own Number value = is_number value
 is_value_of images own Word value = is_word value
@@ -70,7 +71,7 @@ is_value_of images own Flag value = is_empty value
 is_value_of images own Text value = true
 is_value_of images own Link value = is_link value
 is_value_of images own Source value = is_source images own value
-is_value_of images own Style value = false
+is_value_of images own Style value = is_style value && not (is_empty value)
 
 abbrev pub is_value_of_kind : Bool → (List ℕ → Bool) → Option ValueKind → List ℕ → Bool
 is_value_of_kind images own None value = false
