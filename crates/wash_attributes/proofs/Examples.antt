@@ -1,5 +1,5 @@
 -- Washed attributes, computed.
-use Rattle.std.proofs.Common.{◌≡◌, ℕ, Bool, true, false, if◌then◌else◌, List, [], ◌∷◌, ◌++◌, map, codes, refl, Option, Some, None}
+use Rattle.std.proofs.Common.{◌≡◌, ℕ, Bool, true, false, if◌then◌else◌, List, [], ◌∷◌, ◌++◌, codes, refl}
 use Rattle.html_syntax.specs.Token.{Attribute}
 use Rattle.html_syntax.specs.Tokenizer.{same}
 use Rattle.html_rules.specs.Tables.{Name, is_listed_attribute, common_attributes, attribute_rows, kind_of, value_kind_rows}

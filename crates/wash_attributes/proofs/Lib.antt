@@ -1,1 +1,4 @@
+pub mod Names
+pub mod Values
+pub mod Allowed
 mod Examples

@@ -1,13 +1,13 @@
 -- What targets and styles have to be so that washed attributes are those of a message.
-use Rattle.std.specs.Prelude.{ℕ, Bool, true, ◌||◌, List, map, IsTrue}
+use Rattle.std.specs.Prelude.{ℕ, Bool, true, List, map, IsTrue}
 use Rattle.std.specs.List.{list_all}
 use Rattle.html_syntax.specs.Token.{Attribute}
 use Rattle.html_syntax.specs.Tokenizer.{replace_null}
 use Rattle.html_rules.specs.Tables.{Name}
 use Rattle.html_rules.specs.Tokens.{replace_nulls}
-use Rattle.html_rules.specs.Values.{is_empty, is_remote, is_link, is_value_of}
+use Rattle.html_rules.specs.Values.{is_remote, is_link}
 use Rattle.html_rules.specs.MessageTokens.{is_message_attribute, are_links_protected}
-use Rattle.html_rules.specs.declared.ValueKind.TheVariants as kind
+use Rattle.style_wash.specs.Declarations.{is_style}
 use Rattle.wash_attributes.specs.Given.{Target, Given}
 use Rattle.wash_attributes.specs.Given.Target.{Part, Remote, Link, Nothing}
 use Rattle.wash_attributes.specs.Attributes.{washed_attributes}
@@ -23,14 +23,10 @@ is_sound_target own (Remote address) = is_remote (as_written address)
 is_sound_target own (Link address) = is_link (as_written address)
 is_sound_target own Nothing = true
 
--- the style is empty, or a value that a `style` may have
-unfoldable pub is_sound_style : Bool → (List ℕ → Bool) → List ℕ → Bool
-is_sound_style images own style = is_empty style || is_value_of images own kind.Style (as_written style)
-
--- what `refer` and `stylewash` return may be written into a message
+-- what `refer` and `stylewash` return may be written into a message: addresses as their targets say, and styles in their written form
 pub record IsSound (given : Given) (own : List ℕ → Bool) : Type 0 where
   pub targets : (address : List ℕ) → IsTrue (is_sound_target own (given.refer address))
-  pub styles : (style : List ℕ) → IsTrue (is_sound_style given.images own (given.stylewash style))
+  pub styles : (style : List ℕ) → IsTrue (is_style (as_written (given.stylewash style)))
 
 -- the attributes are those of a message's element
 pub record AreMessageAttributes (images : Bool) (own : List ℕ → Bool) (element : Name) (attributes : List Attribute) : Type 0 where

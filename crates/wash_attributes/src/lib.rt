@@ -2,3 +2,7 @@
 //!
 //! The definition is `washed_attributes` in `specs/Attributes.antt`; `specs/Soundness.antt` says what follows from it.
 #![tactic(auto)]
+
+mod laws;
+
+pub use laws::kept_attributes_are_allowed;
