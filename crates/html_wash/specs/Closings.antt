@@ -1,5 +1,5 @@
 -- Which open elements a tag closes. Open elements are listed with the innermost first.
-use Rattle.std.specs.Prelude.{ℕ, suc, ◌-◌, Bool, true, false, not, ◌&&◌, ◌||◌, if◌then◌else◌, List, [], ◌∷◌, ◌++◌, length, take, drop, map, codes}
+use Rattle.std.specs.Prelude.{ℕ, suc, ◌-◌, Bool, false, not, ◌&&◌, ◌||◌, if◌then◌else◌, List, [], ◌∷◌, ◌++◌, length, take, drop, map, codes}
 use Rattle.std.specs.List.{flat_map, before_first, suffix_len, position_or_len}
 use Rattle.html_syntax.specs.Token.{Token}
 use Rattle.html_syntax.specs.Token.Token.{End}

@@ -1,8 +1,8 @@
 -- What holds of washed tokens, whatever the tokens were.
-use Rattle.std.specs.Prelude.{◌≡◌, ℕ, Bool, true, false, not, ◌&&◌, if◌then◌else◌, Option, Some, List, [], ◌∷◌, ◌++◌, IsTrue}
+use Rattle.std.specs.Prelude.{◌≡◌, ℕ, Bool, true, false, not, ◌&&◌, if◌then◌else◌, Some, List, [], ◌∷◌, IsTrue}
 use Rattle.std.specs.List.{list_all}
 use Rattle.html_syntax.specs.Token.{Token}
-use Rattle.html_syntax.specs.Token.Token.{Start, End, Char, Comment, Doctype}
+use Rattle.html_syntax.specs.Token.Token.{Start, Char}
 use Rattle.html_syntax.specs.Tokenizer.{replace_null}
 use Rattle.html_rules.specs.Tables.{Name, is_message_element, is_dropped_element, is_void}
 use Rattle.html_rules.specs.Nesting.{open_elements_after}
