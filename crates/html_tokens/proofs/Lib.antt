@@ -1,4 +1,7 @@
 mod ContentExamples
+mod AttributeExamples
+pub mod TagPlaces
+pub mod FirstOfEach
 pub mod EndTags
 pub mod RawRuns
 pub mod DoubleEscapes
@@ -26,3 +29,4 @@ pub mod PackedNames
 pub mod RisingNumbers
 pub mod NameSets
 pub mod HeldNames
+pub mod PlainRuns

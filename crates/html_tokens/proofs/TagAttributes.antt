@@ -65,7 +65,7 @@ gap_bytes_small b h = grind (arith, nat_tests)
 
 -- ---- one attribute after the other
 
-keeping_among : (t : Tag) (attributes : List Attribute) (a : Attribute) → keep_attribute (with_attributes t attributes) a ≡ with_attributes t (add_attribute attributes a)
+pub keeping_among : (t : Tag) (attributes : List Attribute) (a : Attribute) → keep_attribute (with_attributes t attributes) a ≡ with_attributes t (add_attribute attributes a)
 keeping_among t attributes a = elim (cases_Bool (has_name a.name attributes)) [
   | inl is ↦ rw is refl
   | inr other ↦ rw other refl
@@ -102,11 +102,11 @@ passed_next rest at place boundary next holds before = record {
 
 -- ---- the tag's end
 
-tag_closes : (t : Tag) (bytes : List ℕ) → EndsTag bytes → 0 < length bytes → read (BeforeName t) 0 (input bytes) ≡ tokens_after_tag t (input (drop 1 bytes))
+pub tag_closes : (t : Tag) (bytes : List ℕ) → EndsTag bytes → 0 < length bytes → read (BeforeName t) 0 (input bytes) ≡ tokens_after_tag t (input (drop 1 bytes))
 tag_closes t [] ends some = absurd (omega arith)
 tag_closes t (b ∷ bytes) ends some = rw (ends, input-cons 62 bytes (omega arith) (λ (e : 62 ≡ 13). omega arith)) (before_end t (input bytes))
 
-tag_open : (t : Tag) (bytes : List ℕ) → length bytes ≡ 0 → read (BeforeName t) 0 (input bytes) ≡ []
+pub tag_open : (t : Tag) (bytes : List ℕ) → length bytes ≡ 0 → read (BeforeName t) 0 (input bytes) ≡ []
 tag_open t [] none = rw input-nil (before_nil t)
 tag_open t (b ∷ bytes) none = absurd cc
 

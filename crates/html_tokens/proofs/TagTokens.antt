@@ -1,7 +1,7 @@
 -- The tokens of tags.
-use Rattle.std.proofs.Common.{◌≡◌, ℕ, ◌-◌, Bool, List, [], ◌∷◌, take, drop, map, false, refl, sym, ap, ◌∙◌, arith, ◌⊎◌, inl, inr}
+use Rattle.std.proofs.Common.{◌≡◌, ℕ, ◌-◌, Bool, List, [], ◌∷◌, take, drop, map, true, false, refl, sym, ap, ◌∙◌, arith, ◌⊎◌, inl, inr}
 use Rattle.html_syntax.specs.Token.{Attribute, Token}
-use Rattle.html_syntax.specs.Token.Token.{Start}
+use Rattle.html_syntax.specs.Token.Token.{Start, End}
 use Rattle.html_syntax.specs.Characters.{lower}
 use Rattle.html_syntax.specs.States.{Tag, new_tag, replace_null, state_after_start}
 use Rattle.html_syntax.specs.States.State.{Data, TagName, BeforeName}
@@ -53,3 +53,15 @@ tag_token rest after name attributes tag gives start named none reads found = gi
         let more : List Token = read (state_after_start name) 0 (input (drop some.0 after)) in
         let closes : tokens_after_tag (with_attributes tag attributes) (input (drop some.0 after)) ≡ Start name attributes ∷ more = rw (start, named) refl in
         first_token (read Data 0 (input rest)) (Start name attributes) more (reads ∙ some.1 ∙ closes)
+
+-- the same of an end tag
+pub end_tag_token : (rest after : List ℕ) (name : List ℕ) (attributes : List Attribute) (tag : Tag) → GivesToken rest → tag.is_end ≡ true → tag.name ≡ name → tag.attributes ≡ []
+    → read Data 0 (input rest) ≡ read (BeforeName tag) 0 (input after) → ReadsAttributes after attributes → End name ∷ [] ≡ take 1 (read Data 0 (input rest))
+end_tag_token rest after name attributes tag gives end named none reads found = given (found tag none)
+  where
+    given : (read (BeforeName tag) 0 (input after) ≡ []) ⊎ ((n : ℕ) × (read (BeforeName tag) 0 (input after) ≡ tokens_after_tag (with_attributes tag attributes) (input (drop n after)))) → End name ∷ [] ≡ take 1 (read Data 0 (input rest))
+    given (inl nothing) = absurd (some_token rest gives (reads ∙ nothing))
+    given (inr some) =
+        let more : List Token = read Data 0 (input (drop some.0 after)) in
+        let closes : tokens_after_tag (with_attributes tag attributes) (input (drop some.0 after)) ≡ End name ∷ more = rw (end, named) refl in
+        first_token (read Data 0 (input rest)) (End name) more (reads ∙ some.1 ∙ closes)

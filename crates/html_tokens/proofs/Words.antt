@@ -6,11 +6,11 @@ use Rattle.std.specs.List.{list_all}
 use Rattle.std.specs.Str.{bytes_eq}
 use Rattle.html_syntax.specs.Characters.{lower}
 use Rattle.html_syntax.specs.States.{replace_null}
-use Rattle.html_tokens.specs.Tags.{read_name, is_lowered}
+use Rattle.html_tokens.specs.Tags.{read_name, is_word_char}
 use Rattle.html_references.proofs.Stretches.{input-nil, input-cons, input-first, utf8_tail}
 use Rattle.html_tokens.proofs.TagRuns.{head_return}
 
-lowered_first : (x b : ℕ) → is_lowered x ≡ true → (lower b == lower x) ≡ (lower (replace_null b) == x)
+lowered_first : (x b : ℕ) → is_word_char x ≡ true → (lower b == lower x) ≡ (lower (replace_null b) == x)
 lowered_first x b h = elim (cases_Bool (b == 0)) [
   | inl is ↦
       let e : b ≡ 0 = eqb-true b 0 is in
@@ -22,20 +22,20 @@ lowered_first x b h = elim (cases_Bool (b == 0)) [
       rw (other, e) refl
 ]
 
-returned : (x : ℕ) → is_lowered x ≡ true → ((13 == lower x) ≡ false) × ((10 == x) ≡ false)
+returned : (x : ℕ) → is_word_char x ≡ true → ((13 == lower x) ≡ false) × ((10 == x) ≡ false)
 returned x h = (grind (arith, nat_tests), grind (arith, nat_tests))
 
-wide_other : (x b : ℕ) → is_lowered x ≡ true → 128 ≤ b → (lower b == lower x) ≡ false
+wide_other : (x b : ℕ) → is_word_char x ≡ true → 128 ≤ b → (lower b == lower x) ≡ false
 wide_other x b h big = grind (arith, nat_tests)
 
-pub word_read : (word bytes : List ℕ) → list_all is_lowered word ≡ true → IsUtf8 bytes → bytes_eq (map lower bytes) (map lower word) ≡ bytes_eq (read_name bytes) word
+pub word_read : (word bytes : List ℕ) → list_all is_word_char word ≡ true → IsUtf8 bytes → bytes_eq (map lower bytes) (map lower word) ≡ bytes_eq (read_name bytes) word
 word_read [] [] h utf8 = rw input-nil refl
 word_read [] (b ∷ bytes) h utf8 =
     let f = input-first (λ c. true) (λ c big. refl) (λ h. refl) b bytes utf8 refl in
     rw f.is refl
 word_read (x ∷ word) [] h utf8 = rw input-nil refl
 word_read (x ∷ word) (b ∷ bytes) h utf8 =
-    let parts = and_parts (is_lowered x) (list_all is_lowered word) h in
+    let parts = and_parts (is_word_char x) (list_all is_word_char word) h in
     elim (cases_lt b 128) [
       | inl small ↦ elim (cases_Bool (b == 13)) [
         | inl is ↦

@@ -9,3 +9,5 @@ pub mod Stepping
 pub mod PackedNames
 pub mod NameSets
 pub mod Kept
+pub mod Attributes
+pub mod Lexemes

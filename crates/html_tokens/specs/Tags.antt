@@ -1,5 +1,5 @@
 -- The bytes of tags, and the texts of their names and attributes.
-use Rattle.std.specs.Prelude.{◌≡◌, ◌≢◌, ◌⊎◌, ℕ, Bool, false, if◌then◌else◌, not, ◌||◌, ◌==◌, List, [], ◌∷◌, ◌++◌, take, drop, map, Option, MatchOption, IsCharBoundary}
+use Rattle.std.specs.Prelude.{◌≡◌, ◌≢◌, ◌⊎◌, ℕ, Bool, false, if◌then◌else◌, not, ◌&&◌, ◌||◌, ◌==◌, List, [], ◌∷◌, ◌++◌, take, drop, map, Option, MatchOption, IsCharBoundary}
 use Rattle.html_syntax.specs.Token.{Attribute, Token}
 use Rattle.html_syntax.specs.Characters.{carriage_return, quotation_mark, apostrophe, solidus, equals_sign, greater_than, is_between, is_space, lower}
 use Rattle.html_syntax.specs.States.{Tag, has_name, keep, keep_flag, emit, replace_null}
@@ -40,9 +40,9 @@ in_class class.UnquotedValue b = not (is_blank b || b == greater_than)
 abbrev pub read_name : List ℕ → List ℕ
 read_name bytes = map lower (map replace_null (input bytes))
 
--- an ASCII lower alpha
-abbrev pub is_lowered : ℕ → Bool
-is_lowered c = is_between 0x61 0x7A c
+-- a visible ASCII character that isn't an upper alpha
+abbrev pub is_word_char : ℕ → Bool
+is_word_char c = is_between 0x21 0x7E c && not (is_between 0x41 0x5A c)
 
 -- the value of a stretch
 abbrev pub read_value : List ℕ → List ℕ

@@ -1,9 +1,9 @@
 //! The modes of the scanner.
-ghost use Rattle.std.specs.Prelude.{◌≡◌, true};
-ghost use Rattle.std.specs.List.{list_all};
-ghost use Rattle.html_syntax.specs.States.{same, state_after_start};
+ghost use Rattle.std.specs.Prelude.{◌≡◌};
+ghost use Rattle.html_syntax.specs.States.{state_after_start};
 ghost use Rattle.html_tokens.specs.Scanned.{state_in};
-ghost use Rattle.html_tokens.specs.Tags.{read_name, is_lowered};
+
+use crate::written::WrittenName;
 
 /// The element whose content is RCDATA, RAWTEXT or script data.
 #[derive(Clone, Copy)]
@@ -26,35 +26,27 @@ pub enum Mode {
     Plaintext,
 }
 
-/// Whether a tag's name is the word, whatever its case. The word is in lower case.
-fn is_word(name: &str, word: &str) -> bool
-    requires { list_all is_lowered word.now ≡ true }
-    ensures { result ≡ same word.now (read_name name.now) }
-{
-    name.eq_ignore_ascii_case(word)
-}
-
 /// Returns the mode after a start tag of this name.
-pub fn mode_after(name: &str) -> Mode
-    ensures { state_in result ≡ state_after_start (read_name name.now) }
+pub fn mode_after(name: &WrittenName) -> Mode
+    ensures { state_in result ≡ state_after_start name.now }
 {
-    if is_word(name, "title") {
+    if name.reads_as("title") {
         Mode::Inside(Content::Title)
-    } else if is_word(name, "textarea") {
+    } else if name.reads_as("textarea") {
         Mode::Inside(Content::Textarea)
-    } else if is_word(name, "style") {
+    } else if name.reads_as("style") {
         Mode::Inside(Content::Style)
-    } else if is_word(name, "xmp") {
+    } else if name.reads_as("xmp") {
         Mode::Inside(Content::Xmp)
-    } else if is_word(name, "iframe") {
+    } else if name.reads_as("iframe") {
         Mode::Inside(Content::Iframe)
-    } else if is_word(name, "noembed") {
+    } else if name.reads_as("noembed") {
         Mode::Inside(Content::Noembed)
-    } else if is_word(name, "noframes") {
+    } else if name.reads_as("noframes") {
         Mode::Inside(Content::Noframes)
-    } else if is_word(name, "script") {
+    } else if name.reads_as("script") {
         Mode::Inside(Content::Script)
-    } else if is_word(name, "plaintext") {
+    } else if name.reads_as("plaintext") {
         Mode::Plaintext
     } else {
         Mode::Data

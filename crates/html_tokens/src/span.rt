@@ -37,6 +37,13 @@ impl Part {
 }
 
 impl Span {
+    /// Returns the kind of the span's token.
+    pub fn part(&self) -> Part
+        ensures { result ≡ self.now.part }
+    {
+        self.part
+    }
+
     // The same in a text that has `by` more bytes before it.
     pub(crate) fn shift(self, by: usize) -> Span
         requires end { by + self.end < 2 ^ 64 }

@@ -16,6 +16,7 @@ use crate::raw::content_end;
 use crate::span::{Part, Span};
 use crate::tags::{name_end, tag_end};
 use crate::text::{opens_markup, text_end};
+use crate::written::WrittenName;
 use html_references::stretch::ReadAs;
 
 /// The span of a token, the offset after it, and the mode there.
@@ -39,6 +40,9 @@ fn start_step(rest: &str) -> Option<Step>
         None => None,
         Some(after) => {
             let end = 1 + name_len + after;
+            let name = WrittenName {
+                text: &inside[..name_len],
+            };
             Some(Step {
                 span: Span {
                     start: 0,
@@ -46,7 +50,7 @@ fn start_step(rest: &str) -> Option<Step>
                     part: Part::StartTag,
                 },
                 at: end,
-                mode: mode_after(&inside[..name_len]),
+                mode: mode_after(&name),
             })
         }
     }

@@ -7,6 +7,7 @@ ghost use Rattle.html_syntax.specs.States.State.{TagName, BeforeName, AfterName,
 ghost use Rattle.html_syntax.specs.Tokenizer.{read};
 ghost use Rattle.html_references.specs.Input.{input};
 ghost use Rattle.html_tokens.specs.Scanned.{slice_between};
+ghost use Rattle.html_tokens.specs.Attributes.{name_len, equals_end, quoted_place, bare_place, first_value, value_place, attribute_place};
 ghost use Rattle.html_tokens.specs.declared.tags.Class.TheVariants.{Gap};
 ghost use Rattle.html_tokens.specs.Tags.{in_class, is_blank, read_name, BeginsOutside, BeginsAttribute, EndsTag, begins_quoted, ReadsValueAt, ReadsEqualsBefore, ReadsAttributeAt, TagEndsAfter, extend_name, with_attributes, tokens_after_tag};
 
@@ -67,8 +68,7 @@ pub fn name_end(rest: &str) -> usize
 fn attribute_name_end(rest: &str) -> usize
     requires { BeginsAttribute rest.now }
     ensures boundary { IsCharBoundary rest.now result }
-    ensures nonempty { 0 < result }
-    ensures reads { (tag : Tag) → read (BeforeName tag) 0 (input rest.now) ≡ read (AfterName tag (read_name (take result rest.now))) 0 (input (drop result rest.now)) }
+    ensures place { result ≡ name_len rest.now }
 {
     1 + prefix_len(Class::AttributeName, &rest.as_bytes()[1..])
 }
@@ -98,7 +98,7 @@ fn quoted_value(rest: &str) -> ValuePlace
     ensures end { IsCharBoundary rest.now result.end }
     ensures after { IsCharBoundary rest.now result.after }
     ensures ordered { result.start ≤ result.end }
-    ensures reads { ReadsValueAt rest.now result }
+    ensures place { result ≡ quoted_place rest.now }
 {
     let quote = rest.as_bytes()[0];
     let inner = cut_at_byte(quote, &rest[1..]);
@@ -117,7 +117,7 @@ fn unquoted_value(rest: &str) -> ValuePlace
     ensures end { IsCharBoundary rest.now result.end }
     ensures after { IsCharBoundary rest.now result.after }
     ensures ordered { result.start ≤ result.end }
-    ensures reads { ReadsValueAt rest.now result }
+    ensures place { result ≡ bare_place rest.now }
 {
     let len = prefix_len(Class::UnquotedValue, rest.as_bytes());
     ValuePlace {
@@ -134,7 +134,7 @@ fn value_at_start(rest: &str) -> ValuePlace
     ensures end { IsCharBoundary rest.now result.end }
     ensures after { IsCharBoundary rest.now result.after }
     ensures ordered { result.start ≤ result.end }
-    ensures reads { ReadsValueAt rest.now result }
+    ensures place { result ≡ first_value rest.now }
 {
     if is_quoted(rest) {
         quoted_value(rest)
@@ -149,7 +149,7 @@ fn value_after_equals(rest: &str) -> ValuePlace
     ensures end { IsCharBoundary rest.now result.end }
     ensures after { IsCharBoundary rest.now result.after }
     ensures ordered { result.start ≤ result.end }
-    ensures reads { ReadsValueAt rest.now result }
+    ensures place { result ≡ value_place rest.now }
 {
     let at = prefix_len(Class::Space, rest.as_bytes());
     let place = value_at_start(&rest[at..]);
@@ -163,7 +163,7 @@ fn value_after_equals(rest: &str) -> ValuePlace
 /// The offset after the `=`, in the text after an attribute's name. `None` if the attribute has no value.
 fn skip_equals(rest: &str) -> Option<usize>
     ensures boundary { IfSome result (λ n. IsCharBoundary rest.now n) }
-    ensures reads { ReadsEqualsBefore rest.now result }
+    ensures place { result ≡ equals_end rest.now }
 {
     let at = prefix_len(Class::Space, rest.as_bytes());
     if at < rest.len() && rest.as_bytes()[at] == b'=' {
@@ -184,7 +184,7 @@ pub struct AttributePlace {
 }
 
 /// The place of the attribute that a text begins with, up to the end of its value.
-fn attribute_alone(rest: &str) -> AttributePlace
+pub fn attribute_alone(rest: &str) -> AttributePlace
     requires { BeginsAttribute rest.now }
     ensures name { IsCharBoundary rest.now result.name }
     ensures value { IsCharBoundary rest.now result.value }
@@ -192,7 +192,7 @@ fn attribute_alone(rest: &str) -> AttributePlace
     ensures end { IsCharBoundary rest.now result.end }
     ensures ordered { result.value ≤ result.value_end }
     ensures nonempty { 0 < result.end }
-    ensures reads { ReadsAttributeAt rest.now result }
+    ensures place { result ≡ attribute_place rest.now }
 {
     let name = attribute_name_end(rest);
     match skip_equals(&rest[name..]) {
@@ -236,6 +236,7 @@ pub fn attribute(rest: &str) -> AttributePlace
 
 /// The offset of the next attribute or of the tag's end.
 pub fn gap_len(rest: &str) -> usize
+    ensures value { result ≡ prefix_len (in_class Gap) rest.now }
     ensures boundary { IsCharBoundary rest.now result }
     ensures next { BeginsOutside (in_class Gap) (drop result rest.now) }
     ensures reads { (tag : Tag) → read (BeforeName tag) 0 (input rest.now) ≡ read (BeforeName tag) 0 (input (drop result rest.now)) }

@@ -11,9 +11,3 @@ returns-clause-boundary c =
     let bytes = c.as_bytes.result.now in
     let is = c.prefix_len.ensures.value ∙ ap (prefix_len (in_class class.AttributeName)) (sliced 1 bytes ∙ ap (λ (l : List ℕ). drop 1 l) c.as_bytes.ensures.value) in
     (named c.args.rest.now c.prefix_len.result c.utf8.rest c.requires is).boundary
-
-pub returns-clause-reads : goal.returns-clause-reads
-returns-clause-reads c =
-    let bytes = c.as_bytes.result.now in
-    let is = c.prefix_len.ensures.value ∙ ap (prefix_len (in_class class.AttributeName)) (sliced 1 bytes ∙ ap (λ (l : List ℕ). drop 1 l) c.as_bytes.ensures.value) in
-    (named c.args.rest.now c.prefix_len.result c.utf8.rest c.requires is).reads

@@ -3,7 +3,7 @@ use Rattle.std.proofs.lemmas.Str.{IsCharBoundary-start}
 use Rattle.std.specs.List.{prefix_len}
 use Rattle.html_tokens.specs.Tags.{in_class}
 use Rattle.html_tokens.specs.declared.tags.Class.TheVariants as class
-use Rattle.html_tokens.proofs.TagValues.{in_bare, bare_boundary}
+use Rattle.html_tokens.proofs.TagValues.{bare_boundary}
 use Rattle.html_tokens.proofs.tags.unquoted_value.Goals as goal
 
 pub returns-clause-start : goal.returns-clause-start
@@ -16,8 +16,3 @@ returns-clause-end c =
 
 pub returns-clause-after : goal.returns-clause-after
 returns-clause-after c = returns-clause-end c
-
-pub returns-clause-reads : goal.returns-clause-reads
-returns-clause-reads c =
-    let is : c.prefix_len-len.result ≡ prefix_len (in_class class.UnquotedValue) c.args.rest.now = c.prefix_len-len.ensures.value ∙ ap (prefix_len (in_class class.UnquotedValue)) c.as_bytes.ensures.value in
-    in_bare c.args.rest.now c.prefix_len-len.result c.utf8.rest c.requires.unspaced c.requires.unquoted is

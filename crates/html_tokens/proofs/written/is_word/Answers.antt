@@ -4,7 +4,7 @@ use Rattle.std.proofs.lemmas.Slice.Eq.{bytes_eq-Decides}
 use Rattle.std.specs.Str.{bytes_eq}
 use Rattle.html_syntax.specs.Characters.{lower}
 use Rattle.html_tokens.proofs.Words.{word_read}
-use Rattle.html_tokens.proofs.mode.is_word.Goals as goal
+use Rattle.html_tokens.proofs.written.is_word.Goals as goal
 
 pub returns : goal.returns
 returns c =
