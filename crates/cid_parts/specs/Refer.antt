@@ -1,6 +1,6 @@
 -- What an address in a message refers to: a part by its Content-ID (RFC 2392 §2) or its Content-Location (RFC 2557 §8), a page or
 -- a picture of the web, a link, or nothing.
-use Rattle.std.specs.Prelude.{ℕ, Bool, false, if◌then◌else◌, List, drop, take, find, codes, bytes_eq, Option, Some, None, option_map}
+use Rattle.std.specs.Prelude.{◌≡◌, ℕ, Bool, true, false, IsAscii, if◌then◌else◌, List, drop, take, find, codes, bytes_eq, Option, Some, None, option_map}
 use Rattle.std.specs.List.{list_all}
 use Rattle.std.specs.Option.{option_map_or}
 use Rattle.std.specs.Str.{str_to_ascii_lowercase}
@@ -59,3 +59,10 @@ refer_to_id r id = option_map_or Part (first_part (has_id id) r.parts) Nothing
 -- what an address refers to
 unfoldable pub refer : ReferencesValue → List ℕ → Ref
 refer r address = if is_cid address then refer_to_id r (cid_of address) else refer_to_url r (url_of r.base address)
+
+-- the texts are ASCII, and such as a page may have: of the web, or of a link
+abbrev pub IsSafe : Ref → Type 0
+IsSafe (Part section) = Unit {0}
+IsSafe (Remote text) = (is_remote text ≡ true) × IsAscii text
+IsSafe (Link text) = (is_link text ≡ true) × IsAscii text
+IsSafe Nothing = Unit {0}

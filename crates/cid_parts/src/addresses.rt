@@ -2,10 +2,11 @@
 ghost use Rattle.std.specs.Prelude.{◌≡◌, ◌&&◌, ◌||◌, IfOk, if◌then◌else◌, Some, None, drop, codes};
 ghost use Rattle.std.specs.List.{list_all};
 ghost use Rattle.std.specs.Option.{option_copied};
+ghost use Rattle.url.specs.Parts.{serialize};
 ghost use Rattle.html_syntax.specs.References.{begins_with};
 ghost use Rattle.html_rules.specs.Values.{is_address_char, is_remote, is_link};
 ghost use Rattle.cid_parts.specs.Located.{url_of, base_of};
-ghost use Rattle.cid_parts.specs.Refer.{is_cid, ref_of_text};
+ghost use Rattle.cid_parts.specs.Refer.{is_cid, ref_of_text, IsSafe};
 
 use crate::refs::Ref;
 use mail_values::Text;
@@ -95,16 +96,23 @@ fn begins_with(word: &str, text: &str) -> bool
     text.as_bytes().starts_with(word.as_bytes())
 }
 
-/// Returns what the text of a URL is by itself.
+/// Returns what a URL is by itself.
 #[tactic(auto, unfolding(crate::specs::Refer::ref_of_text))]
-pub fn ref_of_text(text: Text) -> Ref
-    ensures { result ≡ ref_of_text text }
+pub fn ref_of_url(url: Url) -> Ref
+    ensures equals { result ≡ ref_of_text (serialize url) }
+    ensures safe { IsSafe result }
 {
-    if is_remote(text.as_str()) {
-        Ref::Remote(text)
-    } else if is_link(text.as_str()) {
-        Ref::Link(text)
-    } else {
-        Ref::Nothing
+    if is_remote(url.as_str()) {
+        return Ref::Remote(text_of(url));
     }
+    if is_link(url.as_str()) {
+        return Ref::Link(text_of(url));
+    }
+    Ref::Nothing
+}
+
+fn text_of(url: Url) -> Text
+    ensures { result ≡ serialize url }
+{
+    Text::from_string(String::from(url))
 }

@@ -2,13 +2,13 @@
 ghost use Rattle.std.specs.Prelude.{◌≡◌, IfOk, option_and_then, if◌then◌else◌, Some, None, drop};
 ghost use Rattle.std.specs.Option.{option_copied};
 ghost use Rattle.percent_encoding.specs.Percent.{percent_decode};
+ghost use Rattle.url.specs.Parts.{serialize};
 ghost use Rattle.cid_parts.specs.Located.{references_of};
-ghost use Rattle.cid_parts.specs.Refer.{is_cid, refer, refer_to_id, refer_to_text};
+ghost use Rattle.cid_parts.specs.Refer.{is_cid, refer, refer_to_id, refer_to_text, IsSafe};
 
-use crate::addresses::{content_id, has_address_chars, read_base, read_url, ref_of_text};
+use crate::addresses::{content_id, has_address_chars, read_base, read_url, ref_of_url};
 use crate::maps::{Addresses, Ids, map_addresses, map_ids};
 use crate::refs::Ref;
-use mail_values::Text;
 use mime_tree::{Part, Tree};
 use percent_encoding::percent_decode;
 use std::alloc::{AllocError, Global};
@@ -63,20 +63,22 @@ impl<'a> References<'a> {
     /// Returns what an address refers to.
     #[tactic(auto, unfolding(crate::specs::Refer::refer))]
     pub fn refer(&self, alloc: Global, address: &str) -> Result<Ref, AllocError>
-        ensures { IfOk result (λ to. to ≡ refer self.now address.now) }
+        ensures equals { IfOk result (λ to. to ≡ refer self.now address.now) }
+        ensures safe { IfOk result IsSafe }
     {
         if let Some(escaped) = content_id(address.as_bytes()) {
             return self.refer_to_id(alloc, escaped);
         }
         match read_url(alloc, self.base.as_ref(), address)? {
-            Some(url) => Ok(self.refer_to_text(Text::from_string(String::from(url)))),
+            Some(url) => Ok(self.refer_to_url(url)),
             None => Ok(Ref::Nothing),
         }
     }
 
-    /// Returns what the rest of a `cid:` address refers to.
+    /// Returns the part of a Content-ID, as it is escaped after `cid:`.
     fn refer_to_id(&self, alloc: Global, escaped: &[u8]) -> Result<Ref, AllocError>
-        ensures { IfOk result (λ to. to ≡ refer_to_id self.now (percent_decode escaped.now)) }
+        ensures equals { IfOk result (λ to. to ≡ refer_to_id self.now (percent_decode escaped.now)) }
+        ensures safe { IfOk result IsSafe }
     {
         let id = percent_decode(escaped).into_cow(alloc)?;
         match self.ids.get(id.as_slice()) {
@@ -85,17 +87,18 @@ impl<'a> References<'a> {
         }
     }
 
-    /// Returns what the URL of a text refers to.
+    /// Returns what a URL refers to.
     #[tactic(auto, unfolding(crate::specs::Refer::refer_to_text))]
-    fn refer_to_text(&self, text: Text) -> Ref
-        ensures { result ≡ refer_to_text self.now text }
+    fn refer_to_url(&self, url: Url) -> Ref
+        ensures equals { result ≡ refer_to_text self.now (serialize url) }
+        ensures safe { IsSafe result }
     {
-        if !has_address_chars(text.as_str()) {
+        if !has_address_chars(url.as_str()) {
             return Ref::Nothing;
         }
-        match self.addresses.get(text.as_str()) {
+        match self.addresses.get(url.as_str()) {
             Some(section) => Ref::Part(*section),
-            None => ref_of_text(text),
+            None => ref_of_url(url),
         }
     }
 }
@@ -107,7 +110,8 @@ pub fn refer(
     base: Option<&str>,
     address: &str,
 ) -> Result<Ref, AllocError>
-    ensures { IfOk result (λ to. to ≡ refer (references_of tree.now (option_copied base.entry)) address.now) }
+    ensures equals { IfOk result (λ to. to ≡ refer (references_of tree.now (option_copied base.entry)) address.now) }
+    ensures safe { IfOk result IsSafe }
 {
     References::new(alloc, tree, base)?.refer(alloc, address)
 }
