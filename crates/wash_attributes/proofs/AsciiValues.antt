@@ -1,12 +1,12 @@
 -- Values whose characters are ASCII are the same as bytes and as characters.
-use Rattle.std.proofs.Common.{◌≡◌, ◌≤◌, ℕ, zero, suc, ◌-◌, Bool, true, false, ◌&&◌, cond, nat_lt, IsTrue, List, [], ◌∷◌, ◌++◌, length, take, drop, reverse, IsUtf8, IsAscii, chars, encode_utf8_all, Option, Some, None, if◌then◌else◌, refl, sym, ap, ◌∙◌, arith, inl, inr, ltb-true}
+use Rattle.std.proofs.Common.{◌≡◌, ℕ, zero, suc, ◌-◌, Bool, true, false, nat_lt, IsTrue, List, [], ◌∷◌, ◌++◌, length, take, drop, reverse, IsUtf8, IsAscii, chars, encode_utf8_all, Option, Some, None, if◌then◌else◌, refl, sym, ap, ◌∙◌, arith, inl, inr, ltb-true}
 use Rattle.std.proofs.lemmas.Bool.{cases_Bool}
 use Rattle.std.proofs.lemmas.Bool.Decides.{nat_tests}
 use Rattle.std.proofs.lemmas.List.{reverse-reverse, reverse-append, length-reverse, length-drop, take-append-drop}
 use Rattle.std.proofs.lemmas.List.Folds.{list_all-append}
 use Rattle.std.proofs.Math.Seq.{take-append_seam}
 use Rattle.std.proofs.lemmas.Str.{chars-IsAscii, encodes-chars, encodes-IsAscii}
-use Rattle.std.specs.List.{list_all, prefix_len, suffix_len}
+use Rattle.std.specs.List.{list_all, prefix_len}
 use Rattle.html_rules.specs.Values.{is_empty, is_number, is_word, is_word_char}
 use Rattle.html_rules.proofs.Facts.{and_true}
 use Rattle.html_rules.proofs.Parts.{both_true}

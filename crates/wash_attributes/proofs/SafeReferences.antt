@@ -1,5 +1,5 @@
 -- The addresses of safe references.
-use Rattle.std.proofs.Common.{◌≡◌, ℕ, Bool, true, List, Option, Some, chars, refl, ap, subst, ◌∙◌}
+use Rattle.std.proofs.Common.{◌≡◌, ℕ, Bool, true, List, Some, chars, ap, subst, ◌∙◌}
 use Rattle.std.proofs.lemmas.Str.{chars-IsAscii}
 use Rattle.cid_parts.specs.declared.refs.Ref.{Ref}
 use Rattle.cid_parts.specs.declared.refs.Ref.TheVariants as ref

@@ -1,5 +1,5 @@
 -- How attributes are kept one after the other.
-use Rattle.std.specs.Prelude.{◌≡◌, ℕ, Bool, not, if◌then◌else◌, Option, None, List, [], ◌∷◌, ◌++◌}
+use Rattle.std.specs.Prelude.{◌≡◌, Bool, not, if◌then◌else◌, Option, None, List, [], ◌∷◌, ◌++◌}
 use Rattle.std.specs.List.{filter, filter_map}
 use Rattle.html_syntax.specs.Token.{Attribute}
 use Rattle.html_syntax.specs.Tokenizer.{is_among}

@@ -1,4 +1,4 @@
-use Rattle.std.proofs.Common.{◌++◌, sym, ap, ◌∙◌}
+use Rattle.std.proofs.Common.{◌++◌, ap, ◌∙◌}
 use Rattle.html_rules.specs.Tables.{common_attributes}
 use Rattle.wash_attributes.specs.Addresses.{given_of}
 use Rattle.wash_attributes.specs.Attributes.{protect_link, washed_attributes}

@@ -1,6 +1,6 @@
-use Rattle.std.proofs.Common.{◌≡◌, true, ◌++◌, sym, ap, ◌∙◌}
+use Rattle.std.proofs.Common.{◌++◌, sym, ap, ◌∙◌}
 use Rattle.html_syntax.specs.Tokenizer.{is_among}
-use Rattle.html_rules.specs.Tables.{Name, common_attributes, attribute_rows}
+use Rattle.html_rules.specs.Tables.{common_attributes, attribute_rows}
 use Rattle.wash_attributes.specs.Listed.{are_words}
 use Rattle.wash_attributes.proofs.Rows.{listed_in_row, words_in_row}
 use Rattle.wash_attributes.proofs.names.own_attributes.Goals as goal

@@ -2,7 +2,6 @@ use Rattle.std.proofs.Common.{◌≡◌, List, ℕ, Option, Some, IfOk, sym, ap,
 use Rattle.std.specs.Str.{chars}
 use Rattle.std.proofs.lemmas.Str.{encodes-chars}
 use Rattle.cid_parts.specs.Refer.{refer}
-use Rattle.wash_attributes.specs.Given.{Given}
 use Rattle.wash_attributes.specs.Values.{link_address, picture_address, written_value}
 use Rattle.wash_attributes.specs.Addresses.{target_of, given_of}
 use Rattle.wash_attributes.specs.Written.{text_in}

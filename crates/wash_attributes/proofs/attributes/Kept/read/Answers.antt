@@ -3,7 +3,7 @@ use Rattle.html_syntax.specs.Tokenizer.{is_among}
 use Rattle.html_rules.specs.Tables.{common_attributes}
 use Rattle.wash_attributes.specs.Addresses.{given_of}
 use Rattle.wash_attributes.specs.Listed.{texts_seen}
-use Rattle.wash_attributes.specs.Keeping.{KeptValue, ReadsNext, kept_with}
+use Rattle.wash_attributes.specs.Keeping.{KeptValue, kept_with}
 use Rattle.wash_attributes.proofs.KeepingLemmas.{on_ok_map, not_listed, known_name, new_name}
 use Rattle.wash_attributes.proofs.attributes.Kept.read.Goals as goal
 
