@@ -23,7 +23,7 @@ use std::marker::Model;
 /// pictures were requested.
 #[derive(Clone, Copy)]
 pub struct Washing<'a> {
-    pub references: &'a References<'a>,
+    pub references: &'a References<'a, 'a>,
     pub place: &'a Place,
     pub images: bool,
 }
@@ -151,7 +151,7 @@ pub fn wash_attributes<'m>(
     alloc: Global,
     element: &str,
     tag: &StartTag<'_>,
-    references: &'m References<'m>,
+    references: &'m References<'m, 'm>,
     place: &'m Place,
     images: bool,
 ) -> Result<Attributes, Memory>
