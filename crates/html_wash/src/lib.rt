@@ -1,0 +1,8 @@
+//! Washes the HTML of a message: what is left can only be shown.
+//!
+//! The definition is `wash` in `specs/Wash.antt`; read `Closings` first. `specs/Law.antt` says what holds of all washed tokens.
+#![tactic(auto)]
+
+mod laws;
+
+pub use laws::washed_is_allowed;

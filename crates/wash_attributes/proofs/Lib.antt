@@ -1,0 +1,9 @@
+pub mod ListedNames
+pub mod WrittenValues
+pub mod Allowed
+pub mod AsciiValues
+pub mod SafeReferences
+pub mod Digits
+pub mod KeepingLemmas
+pub mod Rows
+mod Examples
