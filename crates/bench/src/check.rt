@@ -3,12 +3,16 @@
 use crate::work::{Input, result_of, work_named};
 use std::io::{self, Write};
 
-const CASES: [(&str, &str); 8] = [
+const CASES: [(&str, &str); 9] = [
     ("decode-quoted", "caf=c3=a9 =3d 1=\r\n0\n"),
     ("encode-base64", "one line of text"),
     (
         "tree",
         "Content-Type: multipart/alternative; boundary=a\n\n--a\n\nhi\n--a\nContent-Type: text/html; charset=UTF-8; name=\"a b\"\nContent-Transfer-Encoding: base64\n\nPGI+\n--a--\n",
+    ),
+    (
+        "refer-below",
+        "cid:part999@n\n7.png\nx:y\nhttp://e.example\n",
     ),
     (
         "responses-1",

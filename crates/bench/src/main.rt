@@ -9,6 +9,7 @@ mod check;
 mod codings;
 mod flowed;
 mod parts;
+mod references;
 mod responses;
 mod tokens;
 mod work;
@@ -21,7 +22,7 @@ use work::{Input, Work, perform, result_of, work_named};
 
 const USAGE: &str = "usage: bench WORK [TIMES]
        bench stream-base64|check
-works: decode-base64 decode-quoted encode-base64 encode-quoted tree
+works: decode-base64 decode-quoted encode-base64 encode-quoted tree refer[-below]
        responses[-1|-64|-4096] read-flowed[-del-sp] write-flowed[-quoted] spans tags tokens print-tokens";
 
 /// Writes the microseconds of each run to standard error, and then the result.

@@ -1,6 +1,6 @@
 //! The kinds of work, by their names on the command line.
 
-use crate::{codings, flowed, parts, responses, tokens};
+use crate::{codings, flowed, parts, references, responses, tokens};
 use std::alloc::{AllocError, Global};
 use std::str::from_utf8;
 use transfer_codings::Coding;
@@ -11,6 +11,8 @@ pub enum Work {
     EncodeBase64,
     EncodeQuoted,
     Tree,
+    /// Addresses, one a line, below a long base or without one.
+    Refer { below_base: bool },
     /// Responses of a stream that comes in pieces of this many bytes.
     Responses { piece: usize },
     ReadFlowed { del_sp: bool },
@@ -44,6 +46,8 @@ pub fn work_named(word: &str) -> Option<Work> {
         "encode-base64" => Some(Work::EncodeBase64),
         "encode-quoted" => Some(Work::EncodeQuoted),
         "tree" => Some(Work::Tree),
+        "refer" => Some(Work::Refer { below_base: false }),
+        "refer-below" => Some(Work::Refer { below_base: true }),
         "responses" => Some(Work::Responses { piece: usize::MAX }),
         "responses-4096" => Some(Work::Responses { piece: 4096 }),
         "responses-64" => Some(Work::Responses { piece: 64 }),
@@ -60,13 +64,14 @@ pub fn work_named(word: &str) -> Option<Work> {
     }
 }
 
-/// Does the work once, and returns how many bytes, parts, responses, paragraphs, spans, attributes or tokens came of it.
+/// Does the work once, and returns how many bytes, parts, references, responses, paragraphs, spans, attributes or tokens came of it.
 pub fn perform(alloc: Global, work: Work, input: &Input<'_>) -> Result<usize, AllocError> {
     match work {
         Work::Decode(_) | Work::EncodeBase64 | Work::EncodeQuoted => {
             Ok(codings::result_of(alloc, work, input.bytes)?.len())
         }
         Work::Tree => parts::count_parts(alloc, input.bytes),
+        Work::Refer { below_base } => references::count_references(alloc, input.text, below_base),
         Work::Responses { piece } => responses::count_responses(alloc, input.bytes, piece),
         Work::ReadFlowed { del_sp } => flowed::count_paragraphs(alloc, input.text, del_sp),
         Work::WriteFlowed { depth } => flowed::written_len(alloc, input.text, depth),
@@ -88,7 +93,8 @@ pub fn result_of(alloc: Global, work: Work, input: &Input<'_>) -> Result<Vec<u8>
             Ok(responses::list_counts(alloc, input.bytes, piece)?.into_bytes())
         }
         Work::PrintTokens => Ok(tokens::print_tokens(alloc, input.text)?.into_bytes()),
-        Work::ReadFlowed { .. }
+        Work::Refer { .. }
+        | Work::ReadFlowed { .. }
         | Work::WriteFlowed { .. }
         | Work::Spans
         | Work::Tags
