@@ -8,6 +8,8 @@ mod names;
 #[cfg(test)]
 mod pages;
 #[cfg(test)]
+mod pieces;
+#[cfg(test)]
 mod styles;
 #[cfg(test)]
 mod tables;
