@@ -1,3 +1,5 @@
 pub mod Nesting
 pub mod Law
+pub mod Elements
+pub mod Reversed
 mod Examples

@@ -3,6 +3,10 @@
 //! The definition is `wash` in `specs/Wash.antt`; read `Closings` first. `specs/Law.antt` says what holds of all washed tokens.
 #![tactic(auto)]
 
+mod element;
 mod laws;
+mod lookup;
+mod open_elements;
 
 pub use laws::washed_is_allowed;
+pub use std::alloc::AllocError as Memory;
