@@ -3,3 +3,4 @@ pub mod Closings
 pub mod Seen
 pub mod Wash
 pub mod Law
+pub mod Writing

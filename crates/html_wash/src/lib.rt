@@ -7,6 +7,7 @@ mod element;
 mod laws;
 mod lookup;
 mod open_elements;
+mod tags;
 
 pub use laws::washed_is_allowed;
 pub use std::alloc::AllocError as Memory;

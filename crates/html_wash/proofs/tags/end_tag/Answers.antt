@@ -1,0 +1,7 @@
+use Rattle.std.proofs.Common.{◌≡◌, sym, ap, ◌∙◌}
+use Rattle.html_wash.specs.Wash.{after_end}
+use Rattle.html_wash.proofs.Writing.{nothing_wrote, wrote_same, on_ok_map, end_unlisted}
+use Rattle.html_wash.proofs.tags.end_tag.Goals as goal
+
+pub returns-in-None : goal.returns-in-None
+returns-in-None c = wrote_same _ _ _ _ _ _ (end_unlisted c.args.opened.now _ c.in-None.ensures) (nothing_wrote c.args.opened.now _ c.args.out.now c.requires)
