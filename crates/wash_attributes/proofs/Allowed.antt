@@ -4,6 +4,7 @@ use Rattle.std.proofs.lemmas.List.Folds.{list_all-append}
 use Rattle.std.specs.List.{list_all, filter_map, cons_option, AllByRecursion}
 use Rattle.html_syntax.specs.Token.{Attribute}
 use Rattle.html_syntax.specs.Tokenizer.{same, has_name, replace_null}
+use Rattle.html_tokens.specs.Attributes.{first_of_each}
 use Rattle.html_rules.specs.Tables.{Name, is_listed_attribute, kind_of, is_attribute_name}
 use Rattle.html_rules.specs.Tokens.{replace_nulls}
 use Rattle.html_rules.specs.Values.{is_value_of_attribute}
@@ -13,7 +14,7 @@ use Rattle.html_rules.proofs.Facts.{and_true, no_of}
 use Rattle.html_rules.proofs.Parts.{both_true, or_left, or_right}
 use Rattle.wash_attributes.specs.Given.{Given}
 use Rattle.wash_attributes.specs.Values.{written_value}
-use Rattle.wash_attributes.specs.Attributes.{attribute_with, written_value_of_kind, first_of_each, kept_attribute, kept_attributes, link_protection, washed_attributes}
+use Rattle.wash_attributes.specs.Attributes.{attribute_with, written_value_of_kind, kept_attribute, kept_attributes, link_protection, washed_attributes}
 use Rattle.wash_attributes.specs.Soundness.{as_written, IsSound, AreMessageAttributes}
 use Rattle.wash_attributes.proofs.Names.{listed_name}
 use Rattle.wash_attributes.proofs.Values.{IsOfKind, written_of_kind}

@@ -1,17 +1,13 @@
 -- The attributes of a washed start tag.
-use Rattle.std.specs.Prelude.{ℕ, not, if◌then◌else◌, Option, Some, None, List, [], ◌∷◌, ◌++◌, codes}
-use Rattle.std.specs.List.{filter, filter_map}
+use Rattle.std.specs.Prelude.{ℕ, if◌then◌else◌, Option, Some, None, List, [], ◌∷◌, ◌++◌, codes}
+use Rattle.std.specs.List.{filter_map}
 use Rattle.html_syntax.specs.Token.{Attribute}
-use Rattle.html_syntax.specs.Tokenizer.{same, has_name}
+use Rattle.html_syntax.specs.Tokenizer.{has_name}
+use Rattle.html_tokens.specs.Attributes.{first_of_each}
 use Rattle.html_rules.specs.Tables.{Name, is_listed_attribute, kind_of}
 use Rattle.html_rules.specs.declared.ValueKind.{ValueKind}
 use Rattle.wash_attributes.specs.Given.{Given}
 use Rattle.wash_attributes.specs.Values.{written_value}
-
--- The attributes whose name no earlier one has: of attributes with one name the first (HTML Standard, 13.2.5.33).
-unfoldable pub first_of_each : List Attribute → List Attribute
-first_of_each [] = []
-first_of_each (a ∷ rest) = a ∷ filter (λ b. not (same b.name a.name)) (first_of_each rest)
 
 abbrev pub attribute : Name → List ℕ → Attribute
 attribute name value = record { name = name; value = value }

@@ -1,0 +1,3 @@
+mod Examples
+pub mod Words
+pub mod MapLemmas

@@ -1,0 +1,118 @@
+//! Reads an address: its scheme, its URL, and what a URL is by itself.
+ghost use Rattle.std.specs.Prelude.{◌≡◌, ◌&&◌, ◌||◌, IfOk, if◌then◌else◌, Some, None, drop, codes};
+ghost use Rattle.std.specs.List.{list_all};
+ghost use Rattle.std.specs.Option.{option_copied};
+ghost use Rattle.url.specs.Parts.{serialize};
+ghost use Rattle.html_syntax.specs.References.{begins_with};
+ghost use Rattle.html_rules.specs.Values.{is_address_char, is_remote, is_link};
+ghost use Rattle.cid_parts.specs.Located.{url_of, base_of};
+ghost use Rattle.cid_parts.specs.Refer.{is_cid, ref_of_text, IsSafe};
+
+use crate::refs::Ref;
+use mail_values::Text;
+use std::alloc::{AllocError, Global};
+use url::{ParseError, Url};
+
+/// Returns what follows `cid:`, if an address begins so.
+pub fn content_id(address: &[u8]) -> Option<&[u8]>
+    ensures { option_copied result ≡ (if is_cid address.now then Some (drop 4 address.now) else None) }
+{
+    match address {
+        [a, b, c, d, rest @ ..] if [*a, *b, *c, *d].eq_ignore_ascii_case(b"cid:") => Some(rest),
+        _ => None,
+    }
+}
+
+/// Returns the URL that an address reads as with a base.
+#[tactic(auto, unfolding(crate::specs::Located::url_of))]
+pub fn read_url(alloc: Global, base: Option<&Url>, address: &str) -> Result<Option<Url>, AllocError>
+    ensures { IfOk result (λ url. url ≡ url_of (option_copied base.entry) address.now) }
+{
+    let parsed = match base {
+        Some(base) => base.join(address),
+        None => Url::parse(alloc, address),
+    };
+    match parsed {
+        Ok(url) => Ok(Some(url)),
+        Err(ParseError::OutOfMemory) => Err(AllocError),
+        Err(ParseError::Overflow) => Err(AllocError),
+        Err(_) => Ok(None),
+    }
+}
+
+/// Returns the base that a Content-Location gives.
+pub fn read_base(alloc: Global, location: Option<&str>) -> Result<Option<Url>, AllocError>
+    ensures { IfOk result (λ base. base ≡ base_of (option_copied location.entry)) }
+{
+    match location {
+        Some(location) => read_url(alloc, None, location),
+        None => Ok(None),
+    }
+}
+
+/// Returns whether a text has neither a space nor a control.
+pub fn has_address_chars(text: &str) -> bool
+    ensures { result ≡ list_all is_address_char text.now }
+{
+    text.bytes().all(is_address_byte)
+}
+
+fn is_address_byte(byte: u8) -> bool
+    ensures { result ≡ is_address_char byte }
+{
+    byte > b' ' && !(0x7F..=0x9F).contains(&byte)
+}
+
+#[tactic(auto, unfolding(html_rules::specs::Values::is_remote))]
+fn is_remote(text: &str) -> bool
+    ensures { result ≡ is_remote text.now }
+{
+    is_web(text) && has_address_chars(text)
+}
+
+fn is_web(text: &str) -> bool
+    ensures { result ≡ (begins_with (codes "http://") text.now || begins_with (codes "https://") text.now) }
+{
+    begins_with("http://", text) || begins_with("https://", text)
+}
+
+#[tactic(auto, unfolding(html_rules::specs::Values::is_link))]
+fn is_link(text: &str) -> bool
+    ensures { result ≡ is_link text.now }
+{
+    is_remote(text) || is_mailto(text)
+}
+
+fn is_mailto(text: &str) -> bool
+    ensures { result ≡ (begins_with (codes "mailto:") text.now && list_all is_address_char text.now) }
+{
+    begins_with("mailto:", text) && has_address_chars(text)
+}
+
+#[tactic(auto, using(crate::proofs::Words::begins_with_take))]
+fn begins_with(word: &str, text: &str) -> bool
+    ensures { result ≡ begins_with word.now text.now }
+{
+    text.as_bytes().starts_with(word.as_bytes())
+}
+
+/// Returns what a URL is by itself.
+#[tactic(auto, unfolding(crate::specs::Refer::ref_of_text))]
+pub fn ref_of_url(url: Url) -> Ref
+    ensures equals { result ≡ ref_of_text (serialize url) }
+    ensures safe { IsSafe result }
+{
+    if is_remote(url.as_str()) {
+        return Ref::Remote(text_of(url));
+    }
+    if is_link(url.as_str()) {
+        return Ref::Link(text_of(url));
+    }
+    Ref::Nothing
+}
+
+fn text_of(url: Url) -> Text
+    ensures { result ≡ serialize url }
+{
+    Text::from_string(String::from(url))
+}

@@ -1,0 +1,100 @@
+//! Maps from the Content-IDs and the Content-Locations of a message's own parts to the first part of each.
+ghost use Rattle.std.specs.Prelude.{◌≡◌, IfOk, OnOk, option_map, string_bytes};
+ghost use Rattle.std.specs.Option.{option_copied};
+ghost use Rattle.cid_parts.specs.Located.{located, located_parts, address_of};
+ghost use Rattle.cid_parts.specs.Maps.{MapsIds, MapsAddresses, AddsId, AddsAddress};
+
+use crate::addresses::read_url;
+use mail_values::Section;
+use mime_tree::Part;
+use std::alloc::{AllocError, Global};
+use std::collections::BTreeMap;
+use url::Url;
+
+/// The section of the first part of each Content-ID.
+pub type Ids<'a> = BTreeMap<&'a [u8], Section>;
+
+/// The section of the first part of each Content-Location, by the text of its URL.
+pub type Addresses = BTreeMap<String, Section>;
+
+/// Maps the Content-IDs of the parts.
+pub fn map_ids<'a>(alloc: Global, parts: &'a [Part<'a>]) -> Result<Ids<'a>, AllocError>
+    ensures { IfOk result (λ ids. MapsIds ids (located_parts parts.now)) }
+{
+    let mut ids = BTreeMap::new(alloc);
+    for part in parts {
+        add_id(&mut ids, part)?;
+    }
+    Ok(ids)
+}
+
+fn add_id<'a>(ids: &mut Ids<'a>, part: &'a Part<'a>) -> Result<(), AllocError>
+    ensures { OnOk result (AddsId ids.old ids.new part.now) }
+{
+    if part.is_enclosed() {
+        return Ok(());
+    }
+    let Some(id) = part.id() else {
+        return Ok(());
+    };
+    if ids.contains_key(&id) {
+        return Ok(());
+    }
+    match ids.insert(id, *part.section()) {
+        Ok(_) => Ok(()),
+        Err(_) => Err(AllocError),
+    }
+}
+
+/// Maps the Content-Locations of the parts, each read with the base. One that doesn't read is none.
+pub fn map_addresses(
+    alloc: Global,
+    parts: &[Part<'_>],
+    base: Option<&Url>,
+) -> Result<Addresses, AllocError>
+    ensures { IfOk result (λ addresses. MapsAddresses (option_copied base.entry) addresses (located_parts parts.now)) }
+{
+    let mut addresses = BTreeMap::new(alloc);
+    for part in parts {
+        add_address(alloc, &mut addresses, part, base)?;
+    }
+    Ok(addresses)
+}
+
+fn add_address(
+    alloc: Global,
+    addresses: &mut Addresses,
+    part: &Part<'_>,
+    base: Option<&Url>,
+) -> Result<(), AllocError>
+    ensures { OnOk result (AddsAddress (option_copied base.entry) addresses.old addresses.new part.now) }
+{
+    if part.is_enclosed() {
+        return Ok(());
+    }
+    let Some(address) = read_location(alloc, part, base)? else {
+        return Ok(());
+    };
+    if addresses.contains_key(address.as_str()) {
+        return Ok(());
+    }
+    addresses.insert(address, *part.section())?;
+    Ok(())
+}
+
+/// Returns the text of the URL that a part's Content-Location reads as.
+fn read_location(
+    alloc: Global,
+    part: &Part<'_>,
+    base: Option<&Url>,
+) -> Result<Option<String>, AllocError>
+    ensures { IfOk result (λ text. option_map string_bytes text ≡ address_of (option_copied base.entry) (located part.now)) }
+{
+    let Some(location) = part.location() else {
+        return Ok(None);
+    };
+    match read_url(alloc, base, location)? {
+        Some(url) => Ok(Some(String::from(url))),
+        None => Ok(None),
+    }
+}
