@@ -1,3 +1,4 @@
 pub mod Located
 pub mod Refer
 pub mod Maps
+pub mod Laws

@@ -4,10 +4,12 @@
 #![tactic(auto)]
 
 mod addresses;
+mod laws;
 mod lookup;
 mod maps;
 mod refs;
 
+pub use laws::schemes_decide;
 pub use lookup::{References, refer};
 pub use mail_values::{Section, Text};
 pub use refs::Ref;

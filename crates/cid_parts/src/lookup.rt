@@ -20,15 +20,15 @@ use url::Url;
 ///
 /// Contracts see the parts that addresses may name, and the base.
 #[derive(Drop)]
-pub struct References<'a> {
+pub struct References<'t, 'a> {
     /// The parts of which the maps were made.
-    parts: &'a [Part<'a>],
+    parts: &'t [Part<'a>],
     base: Option<Url>,
-    ids: Ids<'a>,
+    ids: Ids<'t>,
     addresses: Addresses,
 }
 
-impl<'a> Model for References<'a> {
+impl<'t, 'a> Model for References<'t, 'a> {
     ghost use Rattle.cid_parts.specs.Located.{ReferencesValue, located_parts};
     ghost use Rattle.cid_parts.specs.Maps.{AreMapsOf};
 
@@ -39,13 +39,13 @@ impl<'a> Model for References<'a> {
     ghost invariant = { λ r. AreMapsOf (located_parts r.parts.now) r.base r.ids r.addresses };
 }
 
-impl<'a> References<'a> {
+impl<'t, 'a> References<'t, 'a> {
     /// Reads the Content-IDs and Content-Locations of a message's parts. `base` is the Content-Location of its HTML part.
     pub fn new(
         alloc: Global,
-        tree: &'a Tree<'a>,
+        tree: &'t Tree<'a>,
         base: Option<&str>,
-    ) -> Result<References<'a>, AllocError>
+    ) -> Result<References<'t, 'a>, AllocError>
         ensures { IfOk result (λ r. r ≡ references_of tree.now (option_copied base.entry)) }
     {
         let parts = tree.parts();

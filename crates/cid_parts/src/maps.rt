@@ -12,13 +12,13 @@ use std::collections::BTreeMap;
 use url::Url;
 
 /// The section of the first part of each Content-ID.
-pub type Ids<'a> = BTreeMap<&'a [u8], Section>;
+pub type Ids<'t> = BTreeMap<&'t [u8], Section>;
 
 /// The section of the first part of each Content-Location, by the text of its URL.
 pub type Addresses = BTreeMap<String, Section>;
 
 /// Maps the Content-IDs of the parts.
-pub fn map_ids<'a>(alloc: Global, parts: &'a [Part<'a>]) -> Result<Ids<'a>, AllocError>
+pub fn map_ids<'t>(alloc: Global, parts: &'t [Part<'_>]) -> Result<Ids<'t>, AllocError>
     ensures { IfOk result (λ ids. MapsIds ids (located_parts parts.now)) }
 {
     let mut ids = BTreeMap::new(alloc);
@@ -28,7 +28,7 @@ pub fn map_ids<'a>(alloc: Global, parts: &'a [Part<'a>]) -> Result<Ids<'a>, Allo
     Ok(ids)
 }
 
-fn add_id<'a>(ids: &mut Ids<'a>, part: &'a Part<'a>) -> Result<(), AllocError>
+fn add_id<'t>(ids: &mut Ids<'t>, part: &'t Part<'_>) -> Result<(), AllocError>
     ensures { OnOk result (AddsId ids.old ids.new part.now) }
 {
     if part.is_enclosed() {

@@ -8,7 +8,7 @@ use Rattle.page_writer.specs.Page.{spell}
 use Rattle.style_wash.specs.Characters.{trimmed}
 use Rattle.wash_attributes.specs.Given.{Target, Given}
 use Rattle.wash_attributes.specs.Values.{written_value}
-use Rattle.wash_attributes.specs.Attributes.{first_of_each, kept_attribute, kept_attributes, link_protection, washed_attributes}
+use Rattle.wash_attributes.specs.Attributes.{kept_attribute, kept_attributes, link_protection, washed_attributes}
 use Rattle.html_wash.specs.Closings.{closing_rows, lookups_of, looked_up, closed_by, blocks, ended}
 use Rattle.html_wash.specs.Wash.{after_start, after_end, wash_token, wash_part, wash_from, wash}
 

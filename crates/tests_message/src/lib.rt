@@ -10,6 +10,8 @@ mod flowed;
 #[cfg(test)]
 mod headers;
 #[cfg(test)]
+mod references;
+#[cfg(test)]
 mod streams;
 #[cfg(test)]
 mod trees;

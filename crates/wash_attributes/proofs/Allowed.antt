@@ -16,8 +16,8 @@ use Rattle.wash_attributes.specs.Given.{Given}
 use Rattle.wash_attributes.specs.Values.{written_value}
 use Rattle.wash_attributes.specs.Attributes.{attribute_with, written_value_of_kind, kept_attribute, kept_attributes, link_protection, washed_attributes}
 use Rattle.wash_attributes.specs.Soundness.{as_written, IsSound, AreMessageAttributes}
-use Rattle.wash_attributes.proofs.Names.{listed_name}
-use Rattle.wash_attributes.proofs.Values.{IsOfKind, written_of_kind}
+use Rattle.wash_attributes.proofs.ListedNames.{listed_name}
+use Rattle.wash_attributes.proofs.WrittenValues.{IsOfKind, written_of_kind}
 
 -- ---- each kept attribute
 

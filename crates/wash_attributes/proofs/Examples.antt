@@ -28,7 +28,6 @@ with_images images = record { refer = target_of; stylewash = style_of; images = 
 -- ---- the first of each name
 
 first_counts : first_of_each (attribute (codes "a") (codes "1") ∷ attribute (codes "b") (codes "2") ∷ attribute (codes "a") (codes "3") ∷ attribute (codes "c") [] ∷ attribute (codes "b") (codes "4") ∷ []) ≡ attribute (codes "a") (codes "1") ∷ attribute (codes "b") (codes "2") ∷ attribute (codes "c") [] ∷ []
-unfolding
 first_counts = refl
 
 -- ---- tags, as their elements and attributes

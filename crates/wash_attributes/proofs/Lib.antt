@@ -1,4 +1,9 @@
-pub mod Names
-pub mod Values
+pub mod ListedNames
+pub mod WrittenValues
 pub mod Allowed
+pub mod AsciiValues
+pub mod SafeReferences
+pub mod Digits
+pub mod KeepingLemmas
+pub mod Rows
 mod Examples

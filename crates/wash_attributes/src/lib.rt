@@ -3,6 +3,13 @@
 //! The definition is `washed_attributes` in `specs/Attributes.antt`; `specs/Soundness.antt` says what follows from it.
 #![tactic(auto)]
 
+pub mod attributes;
 mod laws;
+pub mod names;
+pub mod place;
+mod values;
 
+pub use attributes::wash_attributes;
 pub use laws::kept_attributes_are_allowed;
+pub use place::Place;
+pub use std::alloc::AllocError as Memory;

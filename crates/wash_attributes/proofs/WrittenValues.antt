@@ -15,7 +15,7 @@ use Rattle.wash_attributes.specs.Given.{Target, Given}
 use Rattle.wash_attributes.specs.Given.Target.{Part, Remote, Link, Nothing}
 use Rattle.wash_attributes.specs.Values.{some_if, link_address, picture_address, written_value}
 use Rattle.wash_attributes.specs.Soundness.{as_written, is_sound_target, IsSound}
-use Rattle.wash_attributes.proofs.Names.{or_true}
+use Rattle.wash_attributes.proofs.ListedNames.{or_true}
 
 -- ---- numbers and words are written as they are
 
@@ -31,7 +31,7 @@ as_written_same p f (c ∷ cs) h =
     let rest : as_written cs ≡ cs = as_written_same p f cs both.1 in
     cc
 
-abbrev is_number_char : ℕ → Bool
+abbrev pub is_number_char : ℕ → Bool
 is_number_char c = is_digit c || (c == percent_sign || (c == plus_sign || c == hyphen))
 
 number_char : (c : ℕ) → is_number_char c ≡ true → eqb c 0 ≡ false
@@ -59,7 +59,7 @@ digits_percent_chars (c ∷ cs) h = let both = and_true (is_digit c) (has_at_mos
 sign_onto : (c : ℕ) (cs : List ℕ) → (c == plus_sign || c == hyphen) ≡ true → list_all is_number_char cs ≡ true → list_all is_number_char (c ∷ cs) ≡ true
 sign_onto c cs e h = both_true (is_number_char c) (list_all is_number_char cs) (or_right (is_digit c) _ (or_right (c == percent_sign) _ e)) h
 
-number_chars : (cs : List ℕ) → is_number cs ≡ true → list_all is_number_char cs ≡ true
+pub number_chars : (cs : List ℕ) → is_number cs ≡ true → list_all is_number_char cs ≡ true
 unfolding is_number
 number_chars [] h = refl
 number_chars (c ∷ cs) h =

@@ -1,0 +1,15 @@
+use Rattle.std.proofs.Common.{◌++◌, ap, ◌∙◌}
+use Rattle.html_rules.specs.Tables.{common_attributes}
+use Rattle.wash_attributes.specs.Addresses.{given_of}
+use Rattle.wash_attributes.specs.Attributes.{protect_link, washed_attributes}
+use Rattle.wash_attributes.specs.Listed.{texts_seen}
+use Rattle.wash_attributes.specs.Keeping.{KeptValue}
+use Rattle.wash_attributes.proofs.KeepingLemmas.{all_kept}
+use Rattle.wash_attributes.proofs.attributes.wash_attributes.Goals as goal
+
+pub returns : goal.returns
+unfolding washed_attributes
+returns c =
+    let given = given_of c.args.references.now c.args.place.now c.args.images in
+    let listed = common_attributes ++ texts_seen c.own_attributes.result.now in
+    record { equals = c.in_ok-protect.ensures ∙ ap protect_link (ap (λ (k : KeptValue). k.attributes) c.attributes.view_is ∙ c.in_ok-attributes.ensures ∙ all_kept given listed c.args.element.now c.args.tag.now.attributes c.own_attributes.ensures.listed) }

@@ -1,0 +1,168 @@
+//! The attributes of a start tag.
+ghost use Rattle.std.specs.Prelude.{◌≡◌, ◌++◌, [], ◌∷◌, true, chars, IfOk, OnOk, IsTrue};
+ghost use Rattle.std.specs.List.{list_all};
+ghost use Rattle.html_syntax.specs.Tokenizer.{has_name};
+ghost use Rattle.html_tokens.specs.Tags.{is_word_char};
+ghost use Rattle.html_rules.specs.Tables.{common_attributes, kind_of};
+ghost use Rattle.wash_attributes.specs.Attributes.{attribute_with, written_value_of_kind, kept_attributes, link_protection, protect_link, washed_attributes};
+ghost use Rattle.wash_attributes.specs.Addresses.{given_of};
+ghost use Rattle.wash_attributes.specs.Listed.{texts_seen, are_words};
+ghost use Rattle.wash_attributes.specs.Keeping.{ReadsNext, with_attribute, kept_with, to_list};
+
+use crate::Memory;
+use crate::names::{is_among, kind_of, listed_attribute, own_attributes};
+use crate::place::Place;
+use crate::values::written_value;
+use cid_parts::References;
+use html_syntax::Attributes;
+use html_tokens::{StartTag, WrittenAttribute};
+use std::alloc::Global;
+use std::marker::Model;
+
+/// What the attributes of a message are washed with: what its addresses refer to, where the site has its parts, and whether remote
+/// pictures were requested.
+#[derive(Clone, Copy)]
+pub struct Washing<'a> {
+    pub references: &'a References<'a, 'a>,
+    pub place: &'a Place,
+    pub images: bool,
+}
+
+/// The attributes that are kept so far, and the listed names that were read.
+#[derive(Drop)]
+struct Kept {
+    attributes: Attributes,
+    names: Vec<&'static str>,
+}
+
+impl Model for Kept {
+    ghost use Rattle.wash_attributes.specs.Keeping.{KeptValue};
+    ghost use Rattle.wash_attributes.specs.Listed.{texts_seen};
+
+    ghost Value = { KeptValue };
+
+    ghost view = { λ k. record { attributes = k.attributes; names = texts_seen k.names.items } };
+}
+
+/// Adds an attribute if its value is of its kind.
+fn push_attribute(
+    alloc: Global,
+    kept: &mut Attributes,
+    name: &'static str,
+    attribute: &WrittenAttribute<'_>,
+    with: &Washing<'_>,
+) -> Result<(), Memory>
+    requires { list_all is_word_char name.now ≡ true }
+    ensures { OnOk result (kept.new ≡ kept.old ++ to_list (attribute_with name.now (written_value_of_kind (given_of with.now.references.now with.now.place.now with.now.images) (kind_of name.now) attribute.now.value))) }
+{
+    let Some(kind) = kind_of(name) else {
+        return Ok(());
+    };
+    let value = attribute.value(alloc)?;
+    match written_value(alloc, kind, value.as_str(), with)? {
+        Some(written) => kept.push(alloc, name, written.as_str()),
+        None => Ok(()),
+    }
+}
+
+impl Kept {
+    fn new(alloc: Global) -> Self
+        ensures attributes { result.attributes ≡ [] }
+        ensures names { result.names ≡ [] }
+    {
+        Kept {
+            attributes: Attributes::new(alloc),
+            names: Vec::new(alloc),
+        }
+    }
+
+    /// Reads the attribute of a listed name that wasn't read before.
+    fn keep(
+        &mut self,
+        alloc: Global,
+        name: &'static str,
+        attribute: &WrittenAttribute<'_>,
+        with: &Washing<'_>,
+    ) -> Result<(), Memory>
+        requires word { list_all is_word_char name.now ≡ true }
+        requires name { name.now ≡ attribute.now.name }
+        ensures { OnOk result (self.new ≡ with_attribute (given_of with.now.references.now with.now.place.now with.now.images) self.old attribute.now) }
+    {
+        self.names.push(name)?;
+        push_attribute(alloc, &mut self.attributes, name, attribute, with)
+    }
+
+    /// Reads the next attribute of a tag.
+    fn read(
+        &mut self,
+        alloc: Global,
+        own: &'static [&'static str],
+        attribute: &WrittenAttribute<'_>,
+        with: &Washing<'_>,
+    ) -> Result<(), Memory>
+        requires { are_words (texts_seen own.now) ≡ true }
+        ensures { OnOk result (ReadsNext (given_of with.now.references.now with.now.place.now with.now.images) (common_attributes ++ texts_seen own.now) self.old attribute.now self.new) }
+    {
+        let Some(name) = listed_attribute(own, &attribute.name()) else {
+            return Ok(());
+        };
+        if is_among(self.names.as_slice(), name) {
+            return Ok(());
+        }
+        self.keep(alloc, name, attribute, with)
+    }
+}
+
+/// Reads the attributes of a tag.
+fn read_attributes(
+    alloc: Global,
+    own: &'static [&'static str],
+    tag: &StartTag<'_>,
+    with: &Washing<'_>,
+) -> Result<Kept, Memory>
+    requires { are_words (texts_seen own.now) ≡ true }
+    ensures { IfOk result (λ kept. kept.attributes ≡ kept_with (given_of with.now.references.now with.now.place.now with.now.images) (common_attributes ++ texts_seen own.now) (record { attributes = []; names = [] }) tag.now.attributes) }
+{
+    let mut kept = Kept::new(alloc);
+    let mut reader = tag.attributes();
+    while let Some(attribute) = reader.next() {
+        kept.read(alloc, own, &attribute, with)?;
+    }
+    Ok(kept)
+}
+
+/// Adds the attributes that open a link in a new window, if there is a link.
+#[tactic(auto, unfolding(crate::specs::Attributes::link_protection))]
+fn protect(alloc: Global, attributes: &mut Attributes) -> Result<(), Memory>
+    ensures { OnOk result (attributes.new ≡ protect_link attributes.old) }
+{
+    if attributes.contains("href") {
+        attributes.push(alloc, "rel", "noopener noreferrer")?;
+        attributes.push(alloc, "target", "_blank")?;
+    }
+    Ok(())
+}
+
+/// Returns the attributes of a washed start tag of an element. They have different names.
+///
+/// The tag's attributes are read in place: no name takes memory, and no value that is dropped unless it is decoded first. `place` gives
+/// the addresses of the message's parts, and `images` tells whether remote pictures were requested.
+pub fn wash_attributes<'m>(
+    alloc: Global,
+    element: &str,
+    tag: &StartTag<'_>,
+    references: &'m References<'m, 'm>,
+    place: &'m Place,
+    images: bool,
+) -> Result<Attributes, Memory>
+    ensures equals { IfOk result (λ washed. washed ≡ washed_attributes (given_of references.now place.now images) element.now tag.now.attributes) }
+{
+    let with = Washing {
+        references,
+        place,
+        images,
+    };
+    let Kept { mut attributes, .. } = read_attributes(alloc, own_attributes(element), tag, &with)?;
+    protect(alloc, &mut attributes)?;
+    Ok(attributes)
+}
