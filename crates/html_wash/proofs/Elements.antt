@@ -1,8 +1,7 @@
 -- Elements and their names.
-use Rattle.std.proofs.Common.{◌≡◌, ℕ, Bool, true, false, not, ◌&&◌, List, [], codes, refl, sym, ap, ◌∙◌, nat_eq, slice_index_or, eq-eqb, eqb-true, chars}
+use Rattle.std.proofs.Common.{◌≡◌, ℕ, Bool, true, false, [], refl, sym, ap, ◌∙◌, nat_eq, slice_index_or, eq-eqb, eqb-true}
 use Rattle.std.specs.List.{list_all, position_or_len}
-use Rattle.std.proofs.lemmas.Str.{chars-IsAscii}
-use Rattle.html_syntax.specs.Tokenizer.{same, is_among}
+use Rattle.html_syntax.specs.Tokenizer.{same}
 use Rattle.html_tokens.specs.Tags.{is_word_char}
 use Rattle.html_rules.specs.Tables.{Name, message_elements, is_message_element}
 use Rattle.html_rules.proofs.Facts.{among_all, same-true, same-refl}

@@ -3,4 +3,7 @@ pub mod Law
 pub mod Elements
 pub mod Reversed
 pub mod Writing
+pub mod Distinct
+pub mod Starting
+pub mod Taking
 mod Examples

@@ -1,7 +1,7 @@
 -- Elements that are kept with the innermost last, as names with the innermost first.
-use Rattle.std.proofs.Common.{◌≡◌, ℕ, zero, suc, ◌+◌, ◌-◌,  ◌<◌, ◌≤◌, Bool, true, false, not, ◌&&◌, ◌||◌, cond, if◌then◌else◌, List, [], ◌∷◌, ◌++◌, length, map, take, drop, reverse, get_or, refl, sym, ap, subst, ◌∙◌, arith}
+use Rattle.std.proofs.Common.{◌≡◌, ℕ, suc, ◌+◌, ◌-◌, ◌<◌, ◌≤◌, Bool, true, false, not, ◌||◌, cond, if◌then◌else◌, List, [], ◌∷◌, ◌++◌, length, map, take, drop, reverse, get_or, refl, sym, ap, subst, ◌∙◌, arith}
 use Rattle.std.proofs.lemmas.List.{map-append, reverse-append, reverse-reverse, length-reverse, length-map, length-drop, take-append-drop, take_at, drop_at, take_more, take_rest, get_or_default}
-use Rattle.std.proofs.lemmas.List.Sums.{suffix_len-le-length, suffix_len-take_no, suffix_len-take_yes, prefix_len-le-length, position_or_len_is}
+use Rattle.std.proofs.lemmas.List.Sums.{suffix_len-take_no, suffix_len-take_yes, prefix_len-le-length, position_or_len_is}
 use Rattle.std.specs.List.{prefix_len, suffix_len, position_or_len}
 use borrow.Author.Count.{below_more}
 use Rattle.html_syntax.specs.Tokenizer.{same, is_among}
@@ -77,7 +77,7 @@ looked_up_is l elements start first s f =
     let count : n ≡ suffix_len (λ (e : Element). not (is_among l.stops (name_of e))) elements = suffix_len-stack (λ (name : Name). not (is_among l.stops name)) elements in
     let part : region l (stack elements) ≡ stack inner = take-stack start n elements (omega arith) in
     let first_is : suffix_len (λ (name : Name). not (is_among l.closes name)) (stack inner) ≡ first =
-        ap (prefix_len (λ (name : Name). not (is_among l.closes name))) (reverse-reverse (map name_of inner)) ∙ prefix_len-map (λ (name : Name). not (is_among l.closes name)) name_of inner ∙ sym f in
+    ap (prefix_len (λ (name : Name). not (is_among l.closes name))) (reverse-reverse (map name_of inner)) ∙ prefix_len-map (λ (name : Name). not (is_among l.closes name)) name_of inner ∙ sym f in
     sym (ap (count_to_outermost l.closes) part ∙ ap (λ (k : ℕ). k - suffix_len (λ (name : Name). not (is_among l.closes name)) (stack inner)) (length-stack inner) ∙ ap (λ (k : ℕ). length inner - k) first_is)
 
 -- an end tag looks past neither elements of its name nor those that block it

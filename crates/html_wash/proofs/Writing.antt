@@ -1,15 +1,15 @@
 -- Tokens that are written one after another.
-use Rattle.std.proofs.Common.{◌≡◌, ℕ, zero, suc, ◌+◌, ◌<◌, ◌≤◌, Bool, true, false, not, ◌&&◌, ◌||◌, if◌then◌else◌, get_or, List, [], ◌∷◌, ◌++◌, length, map, take, drop, refl, sym, ap, subst, ◌∙◌, arith, append_assoc, append-nil, Result, Ok, Err, OnOk}
+use Rattle.std.proofs.Common.{◌≡◌, ℕ, zero, suc, ◌+◌, ◌<◌, ◌≤◌, true, false, not, ◌&&◌, ◌||◌, if◌then◌else◌, get_or, List, [], ◌∷◌, ◌++◌, length, map, take, drop, refl, sym, ap, subst, ◌∙◌, arith, append_assoc, append-nil, Result, Ok, Err, OnOk}
 use Rattle.std.proofs.lemmas.List.{map-append, take_all, take_more, length-append, length-drop, length-take, drop_at, drop-drop}
 use Rattle.html_syntax.specs.Token.{Token}
-use Rattle.html_syntax.specs.Token.Token.{Start, End, Char, Comment, Doctype}
+use Rattle.html_syntax.specs.Token.Token.{End}
 use Rattle.std.specs.List.{position_or_len}
 use Rattle.html_syntax.specs.Tokenizer.{is_among, same}
 use Rattle.html_rules.specs.Tables.{Name, is_void, is_message_element}
 use Rattle.html_rules.proofs.Facts.{and_true}
-use Rattle.page_writer.specs.Page.{takes_tags, outer as rest}
+use Rattle.page_writer.specs.Page.{outer as rest}
 use Rattle.page_writer.specs.Writer.{Page, with_token, with_all_tokens, innermost}
-use Rattle.html_wash.specs.Closings.{After, none_closed, close_innermost, Lookup, region, looked_up, closed_by, blocks, begins_with_element, ended}
+use Rattle.html_wash.specs.Closings.{After, none_closed, close_innermost, Lookup, looked_up, closed_by, blocks, begins_with_element, ended}
 use Rattle.html_wash.specs.Wash.{after_end}
 use Rattle.html_wash.specs.Elements.{name_of}
 use Rattle.html_wash.specs.Seen.{lookup_of}
@@ -125,9 +125,9 @@ lookups_step kinds i d start names outer old page new later count lt counted w v
     let l = lookup_of kind in
     let a = closed_by (map lookup_of (take i kinds)) start in
     let more : map lookup_of (take (i + 1) kinds) ≡ map lookup_of (take i kinds) ++ l ∷ [] =
-        ap (map lookup_of) (take_more kinds i d lt) ∙ map-append lookup_of (take i kinds) (kind ∷ []) in
+    ap (map lookup_of) (take_more kinds i d lt) ∙ map-append lookup_of (take i kinds) (kind ∷ []) in
     let here : close_innermost count names ≡ close_innermost (looked_up l a.opened) a.opened =
-        ap (λ (n : ℕ). close_innermost n names) counted ∙ ap (λ (ns : List Name). close_innermost (looked_up l ns) ns) w.left in
+    ap (λ (n : ℕ). close_innermost n names) counted ∙ ap (λ (ns : List Name). close_innermost (looked_up l ns) ns) w.left in
     let b = close_innermost (looked_up l a.opened) a.opened in
     let second : Wrote b outer page new later = wrote_same (close_innermost count names) b outer page new later here (wrote_as (close_innermost count names) names page.opened outer page new later w.inside v) in
     wrote_same _ _ outer old new later (sym (ap (λ (ls : List Lookup). closed_by ls start) more ∙ closed_by_more (map lookup_of (take i kinds)) l start)) (then_wrote a b outer old page new names later w second)

@@ -1,12 +1,22 @@
 -- What the washer writes into a page.
-use Rattle.std.specs.Prelude.{◌≡◌, ℕ, true, List, [], ◌∷◌, ◌++◌, length, drop}
+use Rattle.std.specs.Prelude.{◌≡◌, ℕ, Bool, true, if◌then◌else◌, List, [], ◌∷◌, ◌++◌, length, drop}
 use Rattle.html_syntax.specs.Token.{Token}
-use Rattle.html_rules.specs.Tables.{Name}
+use Rattle.html_syntax.specs.Tokenizer.{chars}
+use Rattle.html_rules.specs.Tables.{Name, is_void}
 use Rattle.page_writer.specs.Page.{takes_tags}
-use Rattle.page_writer.specs.Writer.{Page, with_all_tokens}
+use Rattle.page_writer.specs.Writer.{Page, with_all_tokens, with_text}
 use Rattle.html_wash.specs.Closings.{After}
 use Rattle.html_wash.specs.Wash.{State, Step}
 use Rattle.html_wash.specs.Law.{are_openable}
+
+-- a washer: its state, and whether it shows remote pictures
+pub record WasherState : Type 0 where
+  pub state : State
+  pub images : Bool
+
+-- a start tag is written, and its element is open after it unless it is void
+abbrev pub with_element : Name → Token → List Name → After
+with_element name tag opened = record { opened = (if is_void name then opened else name ∷ opened); tokens = tag ∷ [] }
 
 -- of a page's open elements, those outside of the washer's
 abbrev pub outside : List Name → List Name → List Name
@@ -29,3 +39,7 @@ pub record Took (step : Step) (outer : List Name) (old new : Page) (state : Stat
   pub page : new ≡ with_all_tokens old step.tokens
   pub after : state ≡ step.state
   pub inside : IsInside state.opened new.opened outer
+
+-- if the tokens are characters, these were appended
+abbrev pub WroteCharacters : List Token → Page → Page → Type 0
+WroteCharacters tokens old new = (cs : List ℕ) → tokens ≡ chars cs → new ≡ with_text old cs

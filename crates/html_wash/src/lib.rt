@@ -6,8 +6,12 @@
 mod element;
 mod laws;
 mod lookup;
+mod message;
 mod open_elements;
 mod tags;
+mod washer;
 
 pub use laws::washed_is_allowed;
+pub use message::wash;
 pub use std::alloc::AllocError as Memory;
+pub use washer::Washer;

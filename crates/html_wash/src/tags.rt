@@ -1,20 +1,24 @@
 //! Writes what tags close and open.
-ghost use Rattle.std.specs.Prelude.{◌≡◌, ◌≤◌, ◌≢◌, true, false, IsTrue, List, length, chars, OnOk};
+ghost use Rattle.std.specs.Prelude.{◌≡◌, ◌≤◌, ◌||◌, nat_lt, true, false, length, OnOk};
 ghost use Rattle.html_syntax.specs.Token.Token.{Start};
 ghost use Rattle.html_rules.specs.Tokens.{replace_nulls};
 ghost use Rattle.page_writer.specs.Page.{are_attributes, are_distinct};
 ghost use Rattle.html_wash.specs.Elements.{name_of};
 ghost use Rattle.html_wash.specs.Closings.{none_closed, close_innermost, closed_by, lookups_of};
-ghost use Rattle.html_wash.specs.Wash.{open_element, after_end};
-ghost use Rattle.html_wash.specs.Writing.{outside, IsInside, Wrote};
+ghost use Rattle.html_rules.specs.Tables.{is_void};
+ghost use Rattle.html_wash.specs.Wash.{open_limit, after_start, after_end};
+ghost use Rattle.wash_attributes.specs.Addresses.{given_of};
+ghost use Rattle.html_wash.specs.Writing.{outside, with_element, IsInside, Wrote};
 
 use crate::Memory;
 use crate::element::{Element, element_named};
 use crate::lookup::lookups;
 use crate::open_elements::OpenElements;
-use html_tokens::{Attributes, WrittenName};
+use cid_parts::References;
+use html_tokens::{Attributes, StartTag, WrittenName};
 use page_writer::PageOut;
 use std::alloc::Global;
+use wash_attributes::{Place, wash_attributes};
 
 /// How many elements may be open.
 const OPEN_LIMIT: usize = 128;
@@ -45,7 +49,11 @@ fn close_by(element: Element, opened: &mut OpenElements, out: &mut PageOut) -> R
 }
 
 /// Writes what an end tag closes.
-pub fn end_tag(name: &WrittenName, opened: &mut OpenElements, out: &mut PageOut) -> Result<(), Memory>
+pub fn end_tag(
+    name: &WrittenName,
+    opened: &mut OpenElements,
+    out: &mut PageOut,
+) -> Result<(), Memory>
     requires { IsInside opened.old out.old.opened (outside opened.old out.old.opened) }
     ensures { OnOk result (Wrote (after_end opened.old name.now) (outside opened.old out.old.opened) out.old out.new opened.new) }
 {
@@ -65,4 +73,53 @@ fn end_element(element: Element, opened: &mut OpenElements, out: &mut PageOut) -
     }
     let count = opened.ended(element);
     close(count, opened, out)
+}
+
+/// Writes a start tag, and opens its element unless it is void.
+fn open(
+    alloc: Global,
+    element: Element,
+    attributes: &Attributes,
+    opened: &mut OpenElements,
+    out: &mut PageOut,
+) -> Result<(), Memory>
+    requires inside { IsInside opened.old out.old.opened (outside opened.old out.old.opened) }
+    requires named { are_attributes attributes.now ≡ true }
+    requires distinct { are_distinct attributes.now ≡ true }
+    ensures { OnOk result (Wrote (with_element (name_of element) (Start (name_of element) (replace_nulls attributes.now)) opened.old) (outside opened.old out.old.opened) out.old out.new opened.new) }
+{
+    out.start(alloc, element.name(), attributes)?;
+    if element.is_void() {
+        return Ok(());
+    }
+    opened.push(element)
+}
+
+/// Whether the start tag of an element may be written while `count` elements are open.
+fn has_room(element: Element, count: usize) -> bool
+    ensures { result ≡ (is_void (name_of element) || nat_lt count open_limit) }
+{
+    element.is_void() || count < OPEN_LIMIT
+}
+
+/// Writes the start tag of an element after what it closes.
+pub fn start_tag(
+    alloc: Global,
+    element: Element,
+    tag: &StartTag,
+    references: &References,
+    place: &Place,
+    images: bool,
+    opened: &mut OpenElements,
+    out: &mut PageOut,
+) -> Result<(), Memory>
+    requires { IsInside opened.old out.old.opened (outside opened.old out.old.opened) }
+    ensures { OnOk result (Wrote (after_start (given_of references.now place.now images) opened.old (name_of element) tag.now.attributes) (outside opened.old out.old.opened) out.old out.new opened.new) }
+{
+    close_by(element, opened, out)?;
+    if !has_room(element, opened.len()) {
+        return Ok(());
+    }
+    let attributes = wash_attributes(alloc, element.name(), tag, references, place, images)?;
+    open(alloc, element, &attributes, opened, out)
 }

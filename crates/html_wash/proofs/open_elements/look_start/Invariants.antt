@@ -1,7 +1,4 @@
-use Rattle.std.proofs.Common.{not, ◌||◌}
-use Rattle.html_syntax.specs.Tokenizer.{same, is_among}
 use Rattle.html_wash.specs.Elements.{name_of}
-use Rattle.html_wash.specs.Seen.{lookup_of}
 use Rattle.html_wash.proofs.Reversed.{IsLeft, passes}
 use Rattle.html_wash.proofs.open_elements.look_start.Given as goal
 

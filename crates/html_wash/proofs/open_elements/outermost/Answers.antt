@@ -1,8 +1,7 @@
-use Rattle.std.proofs.Common.{◌≡◌, ◌<◌, ◌≤◌, ℕ, Bool, false, true, get_or, sym, ◌∙◌, ap, arith, length, List}
+use Rattle.std.proofs.Common.{sym, ◌∙◌}
 use Rattle.html_syntax.specs.Tokenizer.{is_among}
 use Rattle.html_wash.specs.Elements.{name_of}
 use Rattle.html_wash.specs.Seen.{lookup_of}
-use Rattle.html_wash.specs.declared.element.Element.{Element}
 use Rattle.html_wash.proofs.Reversed.{first_here, first_nowhere, none_more}
 use Rattle.html_wash.proofs.open_elements.outermost.Goals as goal
 

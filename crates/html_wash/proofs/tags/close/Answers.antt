@@ -1,4 +1,3 @@
-use Rattle.std.proofs.Common.{◌≡◌}
 use Rattle.html_wash.proofs.Writing.{close_none, close_some, close_step, page_some}
 use Rattle.html_wash.proofs.tags.close.Goals as goal
 

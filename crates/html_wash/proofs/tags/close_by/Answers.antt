@@ -1,5 +1,3 @@
-use Rattle.std.proofs.Common.{◌≡◌, arith}
-use Rattle.html_wash.specs.Seen.{lookup_of}
 use Rattle.html_wash.proofs.Writing.{inside_outside, counted_le, lookups_none, lookups_step, lookups_done}
 use Rattle.html_wash.proofs.tags.close_by.Goals as goal
 

@@ -1,4 +1,4 @@
-use Rattle.std.proofs.Common.{◌≡◌, sym, ap, ◌∙◌, arith}
+use Rattle.std.proofs.Common.{sym, ap, ◌∙◌, arith}
 use Rattle.html_wash.specs.Closings.{close_innermost}
 use Rattle.html_wash.specs.Elements.{name_of}
 use Rattle.html_wash.proofs.Writing.{nothing_wrote, wrote_same, on_ok_map, ended_le, end_void, end_closes}

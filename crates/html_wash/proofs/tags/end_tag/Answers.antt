@@ -1,6 +1,4 @@
-use Rattle.std.proofs.Common.{◌≡◌, sym, ap, ◌∙◌}
-use Rattle.html_wash.specs.Wash.{after_end}
-use Rattle.html_wash.proofs.Writing.{nothing_wrote, wrote_same, on_ok_map, end_unlisted}
+use Rattle.html_wash.proofs.Writing.{nothing_wrote, wrote_same, end_unlisted}
 use Rattle.html_wash.proofs.tags.end_tag.Goals as goal
 
 pub returns-in-None : goal.returns-in-None

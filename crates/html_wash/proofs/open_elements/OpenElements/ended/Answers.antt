@@ -1,5 +1,4 @@
-use Rattle.std.proofs.Common.{◌≡◌, ◌+◌, ◌-◌, ℕ, suc, true, false, List, sym, ap, ◌∙◌, arith, length, cond, vec_len}
-use Rattle.html_rules.specs.Tables.{Name}
+use Rattle.std.proofs.Common.{◌≡◌, true, false, sym, ap, ◌∙◌, arith, length}
 use Rattle.html_wash.specs.Closings.{ended}
 use Rattle.html_wash.specs.Elements.{name_of}
 use Rattle.html_wash.specs.Seen.{stack}

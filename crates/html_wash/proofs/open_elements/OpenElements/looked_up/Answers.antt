@@ -1,4 +1,4 @@
-use Rattle.std.proofs.Common.{◌≡◌, ap, ◌∙◌}
+use Rattle.std.proofs.Common.{ap, ◌∙◌}
 use Rattle.html_syntax.specs.Tokenizer.{is_among}
 use Rattle.html_wash.specs.Elements.{name_of}
 use Rattle.html_wash.specs.Seen.{lookup_of, stack}
