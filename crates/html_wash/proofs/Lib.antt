@@ -1,3 +1,9 @@
 pub mod Nesting
 pub mod Law
+pub mod Elements
+pub mod Reversed
+pub mod Writing
+pub mod Distinct
+pub mod Starting
+pub mod Taking
 mod Examples

@@ -22,9 +22,9 @@ use std::marker::Model;
 /// What the attributes of a message are washed with: what its addresses refer to, where the site has its parts, and whether remote
 /// pictures were requested.
 #[derive(Clone, Copy)]
-pub struct Washing<'a> {
-    pub references: &'a References<'a, 'a>,
-    pub place: &'a Place,
+pub struct Washing<'r, 't, 'a, 'p> {
+    pub references: &'r References<'t, 'a>,
+    pub place: &'p Place,
     pub images: bool,
 }
 
@@ -50,7 +50,7 @@ fn push_attribute(
     kept: &mut Attributes,
     name: &'static str,
     attribute: &WrittenAttribute<'_>,
-    with: &Washing<'_>,
+    with: &Washing<'_, '_, '_, '_>,
 ) -> Result<(), Memory>
     requires { list_all is_word_char name.now ≡ true }
     ensures { OnOk result (kept.new ≡ kept.old ++ to_list (attribute_with name.now (written_value_of_kind (given_of with.now.references.now with.now.place.now with.now.images) (kind_of name.now) attribute.now.value))) }
@@ -82,7 +82,7 @@ impl Kept {
         alloc: Global,
         name: &'static str,
         attribute: &WrittenAttribute<'_>,
-        with: &Washing<'_>,
+        with: &Washing<'_, '_, '_, '_>,
     ) -> Result<(), Memory>
         requires word { list_all is_word_char name.now ≡ true }
         requires name { name.now ≡ attribute.now.name }
@@ -98,7 +98,7 @@ impl Kept {
         alloc: Global,
         own: &'static [&'static str],
         attribute: &WrittenAttribute<'_>,
-        with: &Washing<'_>,
+        with: &Washing<'_, '_, '_, '_>,
     ) -> Result<(), Memory>
         requires { are_words (texts_seen own.now) ≡ true }
         ensures { OnOk result (ReadsNext (given_of with.now.references.now with.now.place.now with.now.images) (common_attributes ++ texts_seen own.now) self.old attribute.now self.new) }
@@ -118,7 +118,7 @@ fn read_attributes(
     alloc: Global,
     own: &'static [&'static str],
     tag: &StartTag<'_>,
-    with: &Washing<'_>,
+    with: &Washing<'_, '_, '_, '_>,
 ) -> Result<Kept, Memory>
     requires { are_words (texts_seen own.now) ≡ true }
     ensures { IfOk result (λ kept. kept.attributes ≡ kept_with (given_of with.now.references.now with.now.place.now with.now.images) (common_attributes ++ texts_seen own.now) (record { attributes = []; names = [] }) tag.now.attributes) }
@@ -147,12 +147,12 @@ fn protect(alloc: Global, attributes: &mut Attributes) -> Result<(), Memory>
 ///
 /// The tag's attributes are read in place: no name takes memory, and no value that is dropped unless it is decoded first. `place` gives
 /// the addresses of the message's parts, and `images` tells whether remote pictures were requested.
-pub fn wash_attributes<'m>(
+pub fn wash_attributes(
     alloc: Global,
     element: &str,
     tag: &StartTag<'_>,
-    references: &'m References<'m, 'm>,
-    place: &'m Place,
+    references: &References<'_, '_>,
+    place: &Place,
     images: bool,
 ) -> Result<Attributes, Memory>
     ensures equals { IfOk result (λ washed. washed ≡ washed_attributes (given_of references.now place.now images) element.now tag.now.attributes) }

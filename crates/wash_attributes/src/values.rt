@@ -189,7 +189,7 @@ pub fn written_value(
     alloc: Global,
     kind: ValueKind,
     value: &str,
-    with: &Washing<'_>,
+    with: &Washing<'_, '_, '_, '_>,
 ) -> Result<Option<String>, Memory>
     ensures { IfOk result (λ written. text_in written ≡ written_value (given_of with.now.references.now with.now.place.now with.now.images) kind (chars value.now)) }
 {
