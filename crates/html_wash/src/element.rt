@@ -155,6 +155,22 @@ impl Element {
     }
 }
 
+/// The elements that most tags of messages are of, which are looked up first.
+static FREQUENT: [Element; 12] = [
+    Element::Td,
+    Element::Tr,
+    Element::A,
+    Element::Br,
+    Element::P,
+    Element::Span,
+    Element::Img,
+    Element::Table,
+    Element::Div,
+    Element::Font,
+    Element::B,
+    Element::Li,
+];
+
 static ELEMENTS: [Element; 58] = [
     Element::A,
     Element::Abbr,
@@ -233,7 +249,10 @@ fn named_in(elements: &[Element], name: &WrittenName) -> Option<Element>
 pub fn element_named(name: &WrittenName) -> Option<Element>
     ensures { MatchOption result (is_message_element name.now ≡ false) (λ e. name_of e ≡ name.now) }
 {
-    named_in(&ELEMENTS, name)
+    match named_in(&FREQUENT, name) {
+        Some(element) => Some(element),
+        None => named_in(&ELEMENTS, name),
+    }
 }
 
 /// Whether an element of this name is dropped with its text.
