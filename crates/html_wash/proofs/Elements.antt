@@ -1,11 +1,11 @@
 -- Elements and their names.
-use Rattle.std.proofs.Common.{◌≡◌, ℕ, Bool, true, false, [], refl, sym, ap, ◌∙◌, nat_eq, slice_index_or, eq-eqb, eqb-true}
+use Rattle.std.proofs.Common.{◌≡◌, ◌<◌, ℕ, Bool, true, false, [], arith, refl, sym, ap, ◌∙◌, nat_eq, slice_index_or, eq-eqb, eqb-true}
 use Rattle.std.specs.List.{list_all, position_or_len}
 use Rattle.html_syntax.specs.Tokenizer.{same}
 use Rattle.html_tokens.specs.Tags.{is_word_char}
 use Rattle.html_rules.specs.Tables.{Name, message_elements, is_message_element}
 use Rattle.html_rules.proofs.Facts.{among_all, same-true, same-refl}
-use Rattle.html_wash.specs.Elements.{name_of}
+use Rattle.html_wash.specs.Elements.{name_of, number_of}
 use Rattle.html_wash.specs.declared.element.Element.{Element}
 use Rattle.html_wash.specs.declared.element.Element.TheVariants as element
 use Rattle.html_wash.specs.contracts.element.Element.{the_type}
@@ -39,6 +39,21 @@ name_at_tag : (e : Element) → name_of e ≡ slice_index_or message_elements (t
 unfolding message_elements
 name_at_tag element.A = refl
 name_at_tag _ = refl
+
+pub number_is_tag : (e : Element) → number_of e ≡ tag_of the_type e
+unfolding number_of place
+number_is_tag e = sym (tag_is_place e)
+
+pub number_below : (e : Element) → number_of e < 58
+unfolding number_of message_elements
+number_below element.A = omega arith
+number_below _ = omega arith
+
+-- elements of one number have one name
+pub same_numbers : (a b : Element) → number_of a ≡ number_of b → name_of a ≡ name_of b
+same_numbers a b e =
+    let tags : tag_of the_type a ≡ tag_of the_type b = sym (number_is_tag a) ∙ e ∙ number_is_tag b in
+    name_at_tag a ∙ ap (λ n. slice_index_or message_elements n []) tags ∙ sym (name_at_tag b)
 
 pub same_tags : (a b : Element) → nat_eq (tag_of the_type a) (tag_of the_type b) ≡ same (name_of a) (name_of b)
 same_tags a b =

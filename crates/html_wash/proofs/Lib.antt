@@ -2,6 +2,7 @@ pub mod Nesting
 pub mod Law
 pub mod Elements
 pub mod Reversed
+pub mod OpenFlags
 pub mod Writing
 pub mod Distinct
 pub mod Starting

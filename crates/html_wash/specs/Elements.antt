@@ -1,6 +1,8 @@
 -- The names of the code's elements.
-use Rattle.std.specs.Prelude.{codes}
-use Rattle.html_rules.specs.Tables.{Name}
+use Rattle.std.specs.Prelude.{ℕ, codes}
+use Rattle.std.specs.List.{position_or_len}
+use Rattle.html_syntax.specs.Tokenizer.{same}
+use Rattle.html_rules.specs.Tables.{Name, message_elements}
 use Rattle.html_wash.specs.declared.element.Element.{Element}
 use Rattle.html_wash.specs.declared.element.Element.TheVariants as element
 
@@ -64,3 +66,7 @@ name_of element.U = codes "u"
 name_of element.Ul = codes "ul"
 name_of element.Var = codes "var"
 name_of element.Wbr = codes "wbr"
+
+-- the place of an element in the table of elements
+unfoldable pub number_of : Element → ℕ
+number_of e = position_or_len (λ n. same n (name_of e)) message_elements

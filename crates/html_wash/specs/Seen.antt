@@ -1,8 +1,10 @@
 -- What contracts see in the code's values.
-use Rattle.std.specs.Prelude.{List, [], ◌∷◌, map, reverse, codes}
+use Rattle.std.specs.Prelude.{◌≡◌, Bool, true, false, not, List, [], ◌∷◌, length, map, reverse, get_or, codes}
+use Rattle.std.specs.List.{list_all}
+use Rattle.html_syntax.specs.Tokenizer.{is_among}
 use Rattle.html_rules.specs.Tables.{Name}
 use Rattle.html_wash.specs.Closings.{Lookup, lookups_of}
-use Rattle.html_wash.specs.Elements.{name_of}
+use Rattle.html_wash.specs.Elements.{name_of, number_of}
 use Rattle.html_wash.specs.declared.element.Element.{Element}
 use Rattle.html_wash.specs.declared.lookup.LookupKind.{LookupKind}
 use Rattle.html_wash.specs.declared.lookup.LookupKind.TheVariants as kind
@@ -24,3 +26,12 @@ lookup_of kind.RowGroup = first_lookup (lookups_of (codes "tbody"))
 -- the names of elements that are kept with the innermost last
 abbrev pub stack : List Element → List Name
 stack elements = reverse (map name_of elements)
+
+-- a flag is set for each element of a list, and perhaps for others
+pub record FlagsOpen (flags : List Bool) (elements : List Element) : Type 0 where
+  pub size : length flags ≡ 58
+  pub each : (e : Element) → is_among (map name_of elements) (name_of e) ≡ true → get_or flags (number_of e) false ≡ true
+
+-- none of the names is open
+abbrev pub are_absent : List Name → List Name → Bool
+are_absent opened names = list_all (λ name. not (is_among opened name)) names

@@ -1,8 +1,8 @@
 //! The elements that a message may have.
-ghost use Rattle.std.specs.Prelude.{◌≡◌, false, MatchOption, map};
+ghost use Rattle.std.specs.Prelude.{◌<◌, ◌≡◌, false, MatchOption, map};
 ghost use Rattle.html_syntax.specs.Tokenizer.{same, is_among};
 ghost use Rattle.html_rules.specs.Tables.{is_void as is_void_name, is_message_element, is_dropped_element};
-ghost use Rattle.html_wash.specs.Elements.{name_of};
+ghost use Rattle.html_wash.specs.Elements.{name_of, number_of};
 
 use html_tokens::WrittenName;
 
@@ -145,6 +145,15 @@ impl Element {
             self,
             Element::Br | Element::Col | Element::Hr | Element::Img | Element::Wbr
         )
+    }
+
+    /// The place of the element in the table of elements, from 0.
+    #[tactic(auto, using(crate::proofs::Elements::number_is_tag, crate::proofs::Elements::number_below))]
+    pub fn number(self) -> usize
+        ensures number { result ≡ number_of self }
+        ensures bound { result < 58 }
+    {
+        self as usize
     }
 
     /// Whether the other element is the same.

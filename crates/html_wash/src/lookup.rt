@@ -20,6 +20,34 @@ pub enum LookupKind {
 }
 
 impl LookupKind {
+    /// The elements that the lookup closes.
+    #[tactic(auto, unfolding(crate::specs::Closings::lookups_of, crate::specs::Closings::closing_rows))]
+    pub fn closed(self) -> &'static [Element]
+        ensures { map name_of result.now ≡ (lookup_of self).closes }
+    {
+        match self {
+            LookupKind::Paragraph => &[Element::P],
+            LookupKind::Item => &[Element::Li],
+            LookupKind::Definition => &[Element::Dt, Element::Dd],
+            LookupKind::Link => &[Element::A],
+            LookupKind::Cell => &[
+                Element::Td,
+                Element::Th,
+                Element::Caption,
+                Element::Colgroup,
+            ],
+            LookupKind::Row => &[Element::Tr, Element::Caption, Element::Colgroup],
+            LookupKind::RowGroup => &[
+                Element::Tbody,
+                Element::Thead,
+                Element::Tfoot,
+                Element::Tr,
+                Element::Caption,
+                Element::Colgroup,
+            ],
+        }
+    }
+
     /// Whether the lookup closes the element.
     #[tactic(auto, unfolding(crate::specs::Closings::lookups_of, crate::specs::Closings::closing_rows))]
     pub fn closes(self, element: Element) -> bool

@@ -1,10 +1,10 @@
 //! The open elements of a message.
-ghost use Rattle.std.specs.Prelude.{◌≡◌, ◌+◌, ◌∷◌, List, [], not, ◌||◌, length, drop, OnOk};
+ghost use Rattle.std.specs.Prelude.{◌≡◌, ◌+◌, ◌∷◌, List, [], true, false, not, ◌||◌, length, drop, map, OnOk};
 ghost use Rattle.std.specs.List.{suffix_len, position_or_len};
 ghost use Rattle.html_syntax.specs.Tokenizer.{same, is_among};
 ghost use Rattle.html_wash.specs.Elements.{name_of};
 ghost use Rattle.html_wash.specs.Closings.{blocks as blocks_name, looked_up as looked_up_of, ended as ended_of};
-ghost use Rattle.html_wash.specs.Seen.{lookup_of};
+ghost use Rattle.html_wash.specs.Seen.{lookup_of, are_absent};
 
 use crate::Memory;
 use crate::element::Element;
@@ -13,19 +13,24 @@ use std::alloc::Global;
 use std::marker::Model;
 
 /// The open elements of a message, seen as their names with the innermost first.
+///
+/// A flag for each element says whether one of it may be open, so that a tag that looks for another one costs nothing.
 #[derive(Drop)]
 pub struct OpenElements {
     elements: Vec<Element>,
+    flags: [bool; 58],
 }
 
 impl Model for OpenElements {
     ghost use Rattle.std.specs.Prelude.{List};
     ghost use Rattle.html_rules.specs.Tables.{Name};
-    ghost use Rattle.html_wash.specs.Seen.{stack};
+    ghost use Rattle.html_wash.specs.Seen.{stack, FlagsOpen};
 
     ghost Value = { List Name };
 
     ghost view = { λ o. stack o.elements.items };
+
+    ghost invariant = { λ o. FlagsOpen o.flags o.elements.items };
 }
 
 impl OpenElements {
@@ -35,6 +40,7 @@ impl OpenElements {
     {
         OpenElements {
             elements: Vec::new(alloc),
+            flags: [false; 58],
         }
     }
 
@@ -50,6 +56,7 @@ impl OpenElements {
         ensures { OnOk result (self.new ≡ name_of element ∷ self.old) }
     {
         self.elements.push(element)?;
+        self.flags[element.number()] = true;
         Ok(())
     }
 
@@ -57,13 +64,41 @@ impl OpenElements {
     pub fn pop(&mut self)
         ensures { self.new ≡ drop 1 self.old }
     {
-        let _ = self.elements.pop();
+        if let Some(element) = self.elements.pop() {
+            if !contains(&self.elements, element) {
+                self.flags[element.number()] = false;
+            }
+        }
+    }
+
+    /// Whether an element may be open; `false` only if none is.
+    fn may_be_open(&self, element: Element) -> bool
+        ensures { result ≡ false → is_among self.now (name_of element) ≡ false }
+    {
+        self.flags[element.number()]
+    }
+
+    /// Whether a lookup may close something; `false` only if none of its elements is open.
+    fn may_close(&self, kind: LookupKind) -> bool
+        ensures { result ≡ false → are_absent self.now (lookup_of kind).closes ≡ true }
+    {
+        let mut rest = kind.closed();
+        while let [element, more @ ..] = rest {
+            if self.may_be_open(*element) {
+                return true;
+            }
+            rest = more;
+        }
+        false
     }
 
     /// The number of innermost elements that a lookup closes.
     pub fn looked_up(&self, kind: LookupKind) -> usize
         ensures { result ≡ looked_up_of (lookup_of kind) self.now }
     {
+        if !self.may_close(kind) {
+            return 0;
+        }
         let elements = self.elements.as_slice();
         let region = &elements[region_start(elements, kind)..];
         region.len() - outermost(region, kind)
@@ -73,6 +108,9 @@ impl OpenElements {
     pub fn ended(&self, element: Element) -> usize
         ensures { result ≡ ended_of (name_of element) self.now }
     {
+        if !self.may_be_open(element) {
+            return 0;
+        }
         let start = look_start(&self.elements, element);
         if start == 0 {
             return 0;
@@ -82,6 +120,20 @@ impl OpenElements {
         }
         self.elements.len() - start + 1
     }
+}
+
+/// Whether the element is one of the elements.
+fn contains(elements: &[Element], element: Element) -> bool
+    ensures { result ≡ is_among (map name_of elements.now) (name_of element) }
+{
+    let mut rest = elements;
+    while let [first, more @ ..] = rest {
+        if first.is(element) {
+            return true;
+        }
+        rest = more;
+    }
+    false
 }
 
 /// The index after the innermost element that stops the lookup, or 0.
