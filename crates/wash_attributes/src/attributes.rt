@@ -1,5 +1,5 @@
 //! The attributes of a start tag.
-ghost use Rattle.std.specs.Prelude.{◌≡◌, ◌++◌, [], ◌∷◌, true, chars, IfOk, OnOk, IsTrue};
+ghost use Rattle.std.specs.Prelude.{◌≡◌, ◌++◌, [], ◌∷◌, true, false, chars, IfOk, OnOk, IsTrue};
 ghost use Rattle.std.specs.List.{list_all};
 ghost use Rattle.html_syntax.specs.Tokenizer.{has_name};
 ghost use Rattle.html_tokens.specs.Tags.{is_word_char};
@@ -143,6 +143,16 @@ fn protect(alloc: Global, attributes: &mut Attributes) -> Result<(), Memory>
     Ok(())
 }
 
+/// Whether the tag has attributes, listed or not.
+fn has_attributes(tag: &StartTag<'_>) -> bool
+    ensures { result ≡ false → tag.now.attributes ≡ [] }
+{
+    match tag.attributes().next() {
+        Some(_) => true,
+        None => false,
+    }
+}
+
 /// Returns the attributes of a washed start tag of an element. They have different names.
 ///
 /// The tag's attributes are read in place: no name takes memory, and no value that is dropped unless it is decoded first. `place` gives
@@ -157,6 +167,9 @@ pub fn wash_attributes(
 ) -> Result<Attributes, Memory>
     ensures equals { IfOk result (λ washed. washed ≡ washed_attributes (given_of references.now place.now images) element.now tag.now.attributes) }
 {
+    if !has_attributes(tag) {
+        return Ok(Attributes::new(alloc));
+    }
     let with = Washing {
         references,
         place,
