@@ -1,8 +1,8 @@
 -- What targets and styles have to be so that washed attributes are those of a message.
-use Rattle.std.specs.Prelude.{ℕ, Bool, true, List, map, IsTrue}
-use Rattle.std.specs.List.{list_all}
+use Rattle.std.specs.Prelude.{ℕ, Bool, true, List, map, chars, IsTrue}
+use Rattle.std.specs.List.{list_all, list_any}
 use Rattle.html_syntax.specs.Token.{Attribute}
-use Rattle.html_syntax.specs.Tokenizer.{replace_null}
+use Rattle.html_syntax.specs.Tokenizer.{same, replace_null}
 use Rattle.html_rules.specs.Tables.{Name}
 use Rattle.html_rules.specs.Tokens.{replace_nulls}
 use Rattle.html_rules.specs.Values.{is_remote, is_link}
@@ -11,6 +11,9 @@ use Rattle.style_wash.specs.Declarations.{is_style}
 use Rattle.wash_attributes.specs.Given.{Target, Given}
 use Rattle.wash_attributes.specs.Given.Target.{Part, Remote, Link, Nothing}
 use Rattle.wash_attributes.specs.Attributes.{washed_attributes}
+use Rattle.wash_attributes.specs.declared.place.Place.{Place}
+use Rattle.wash_attributes.specs.Addresses.{part_address, given_of}
+use Rattle.cid_parts.specs.Located.{LocatedPart, ReferencesValue}
 
 -- a value as it is written, with U+0000 as U+FFFD
 abbrev pub as_written : List ℕ → List ℕ
@@ -38,3 +41,13 @@ abbrev pub KeptAttributesAreAllowed : Type 0
 KeptAttributesAreAllowed =
     (given : Given) (own : List ℕ → Bool) (element : Name) (attributes : List Attribute) → IsSound given own
     → AreMessageAttributes given.images own element (replace_nulls (washed_attributes given element attributes))
+
+-- the address of one of the parts, as it is written
+abbrev pub is_part_address : Place → List LocatedPart → List ℕ → Bool
+is_part_address place parts address = list_any (λ (p : LocatedPart). same (as_written (chars (part_address place p.section))) address) parts
+
+-- What a message is washed with is sound. The site's own pictures are the parts that the message's addresses may name.
+abbrev pub ReferencesAreSound : Type 0
+ReferencesAreSound =
+    (references : ReferencesValue) (place : Place) (images : Bool)
+    → IsSound (given_of references place images) (is_part_address place references.parts)

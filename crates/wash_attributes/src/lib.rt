@@ -10,6 +10,6 @@ pub mod place;
 mod values;
 
 pub use attributes::wash_attributes;
-pub use laws::kept_attributes_are_allowed;
+pub use laws::{kept_attributes_are_allowed, references_are_sound};
 pub use place::Place;
 pub use std::alloc::AllocError as Memory;
