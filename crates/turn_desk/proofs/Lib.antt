@@ -1,0 +1,3 @@
+pub mod Prefixes
+pub mod Agreement
+pub mod Turns
