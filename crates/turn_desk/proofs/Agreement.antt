@@ -40,7 +40,7 @@ has_seen_both v w u v_turn v_story w_turn w_story met =
     (All-cons (HasSeen u) (sight_of w) v.met (w_turn, w_story) (has_seen_on v u v.met v_turn v_story met))
 
 -- the home view is the one that is the home seat's
-home_is : (id : ℕ) (v : View) (views : List View) (agree : ViewsAgree views) → get_elem? views id ≡ some v → v.is_home ≡ true → agree.home ≡ v
+pub home_is : (id : ℕ) (v : View) (views : List View) (agree : ViewsAgree views) → get_elem? views id ≡ some v → v.is_home ≡ true → agree.home ≡ v
 home_is id v views agree here home =
     some-injective agree.home v (sym agree.is_there ∙ (ap (get_elem? views) (sym (agree.alone id v here home)) ∙ here))
 

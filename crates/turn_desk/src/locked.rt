@@ -26,6 +26,7 @@ pub(crate) struct Locked<T: Storied, N: Names> {
     ghost is_unspent: { home.me.0.is_spent ≡ false },
     ghost counted: { home.me.0.turn ≡ turns },
     ghost told: { take (length home.me.0.story) (story_of (T.picture inner)) ≡ home.me.0.story },
+    ghost latest: { (1 ≤ turns) → home.me.0.story ≡ story_of (T.picture inner) },
 }
 
 impl<T: Storied, N: Names> Locked<T, N> {
