@@ -40,14 +40,14 @@ impl<T: Storied, N: Names> Desk<T, N> {
 
     /// The number of the desk.
     pub fn number(&self) -> u32
-        ensures { result ≡ self.now }
+        ensures equals { result ≡ self.now }
     {
         self.table.desk()
     }
 
     /// The table, by which the desk's passes are copied and meet.
     pub fn table(&self) -> &DeskTable<N>
-        ensures { result.now ≡ self.now }
+        ensures equals { result.now ≡ self.now }
     {
         &self.table
     }

@@ -47,7 +47,7 @@ impl Model for Blank {
 impl Blank {
     /// A blank for the desk of this number.
     pub fn new(alloc: Global, number: u32) -> Result<Self, AllocError>
-        ensures { IfOk result (λ blank. blank.number ≡ number) }
+        ensures number { IfOk result (λ blank. blank.number ≡ number) }
     {
         let (table, home) = Table::of_words(alloc, &[0], &())?;
         let table = Arc::new(alloc, table)?;
@@ -60,7 +60,7 @@ impl Blank {
 
     /// The number of the desk.
     pub fn number(&self) -> u32
-        ensures { result ≡ self.now.number }
+        ensures equals { result ≡ self.now.number }
     {
         self.number
     }

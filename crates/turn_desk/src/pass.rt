@@ -33,7 +33,7 @@ impl<N: Names> Pass<N> {
         requires of_table { seat.table_id ≡ N.table desk }
         requires beside { seat.me.0.is_home ≡ false }
         requires empty { seat.me.1 ≡ [] }
-        ensures { result ≡ seen_of desk seat.me.0 }
+        ensures seen { result ≡ seen_of desk seat.me.0 }
     {
         Pass {
             desk,
@@ -59,7 +59,7 @@ impl<N: Names> Pass<N> {
 
     /// The number of the desk.
     pub fn desk(&self) -> u32
-        ensures { result ≡ self.now.desk }
+        ensures equals { result ≡ self.now.desk }
     {
         self.desk
     }
@@ -79,7 +79,7 @@ impl<N: Names> Pass<N> {
     pub fn meet(&mut self, table: &DeskTable<N>, other: Pass<N>)
         requires one_desk { table.now ≡ self.old.desk }
         requires other_desk { other.desk ≡ self.old.desk }
-        ensures { self.new ≡ merge_seen self.old other }
+        ensures merges { self.new ≡ merge_seen self.old other }
     {
         steps::meet(table, &mut self.seat, other.into_seat());
     }

@@ -47,7 +47,7 @@ impl<N: Names> DeskTable<N> {
     pub(crate) fn of(desk: u32, table: Arc<SharedTable, Global>) -> Self
         requires one_word { (arc_value table).shared.table_id.words ≡ 1 }
         requires named { (arc_value table).shared.table_id ≡ N.table desk }
-        ensures { result ≡ desk }
+        ensures desk { result ≡ desk }
     {
         DeskTable {
             desk,
@@ -58,7 +58,7 @@ impl<N: Names> DeskTable<N> {
 
     /// The number of the desk.
     pub fn desk(&self) -> u32
-        ensures { result ≡ self.now }
+        ensures equals { result ≡ self.now }
     {
         self.desk
     }
@@ -66,7 +66,7 @@ impl<N: Names> DeskTable<N> {
     /// Another handle on the same table. It is refused only if the table's handles can't be counted any more; no memory is
     /// taken.
     pub fn try_clone(&self) -> Result<Self, AllocError>
-        ensures { IfOk result (λ table. table ≡ self.now) }
+        ensures equals { IfOk result (λ table. table ≡ self.now) }
     {
         let table = Arc::try_clone(&self.table)?;
         Ok(DeskTable::of(self.desk, table))
