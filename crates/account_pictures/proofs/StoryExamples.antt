@@ -1,5 +1,5 @@
 -- Stories of small pictures.
-use Rattle.std.proofs.Common.{◌≡◌, refl, [], ◌∷◌, true, false}
+use Rattle.std.proofs.Common.{◌≡◌, refl, [], ◌∷◌, true}
 use Rattle.std.specs.Prelude.{Some, None, pos}
 use Rattle.account_pictures.specs.declared.pictures.AccountPicture.{AccountPicture}
 use Rattle.account_pictures.specs.declared.pictures.Picture.TheVariants.{Account, Roster}

@@ -1,5 +1,5 @@
 -- Steps on small views, views that disagree, and turns that are and aren't made.
-use Rattle.std.proofs.Common.{◌≡◌, ◌≤◌, refl, ap, sym, subst, List, [], ◌∷◌, true, false, arith}
+use Rattle.std.proofs.Common.{◌≡◌, ◌≤◌, refl, sym, subst, List, [], ◌∷◌, true, false, arith}
 use Rattle.std.specs.Prelude.{Some, None}
 use mathlib.Core.Option.{some-ne-none}
 use Rattle.account_pictures.specs.declared.talk.Piece.{Piece}

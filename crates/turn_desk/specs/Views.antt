@@ -1,5 +1,5 @@
 -- What the views of a desk's table agree on, what its four kinds of step do, and what a turn is.
-use Rattle.std.specs.Prelude.{◌≡◌, ℕ, ◌+◌, ◌<◌, ◌≤◌, ltb, cond, Bool, true, false, List, [], ◌∷◌, length}
+use Rattle.std.specs.Prelude.{◌≡◌, ℕ, ◌+◌, ◌<◌, ◌≤◌, ltb, cond, true, false, List, [], ◌∷◌, length}
 use Rattle.std.specs.List.{All}
 use mathlib.Core.Option.{some}
 use mathlib.Core.List.{IsPrefix}
