@@ -61,7 +61,7 @@ impl<T: Storied, N: Names> Desk<T, N> {
     {
         let mut locked = self.lock.lock(rt);
         if locked.number != self.table.desk() || locked.turns == u64::MAX {
-            // The number is never another; only nothing is known of what is under a lock but its type.
+            // The numbers are equal, but of what is under a lock no more is known than its type says.
             for _ in rt.forever() {}
         }
         locked.turn(&self.table, pass, work)

@@ -2,8 +2,8 @@
 //!
 //! A `Desk` keeps a value behind a lock. `Desk::turn` runs a piece of `Work` on it; the turns of a desk are numbered from 1
 //! in the order in which they were made. A `Pass` belongs to whoever takes turns. It shows the last turn that it saw: its
-//! number, its pictures before and after the work, and the value's story at its end. A turn promises that the value has
-//! never fallen behind what the pass had seen.
+//! number, its pictures before and after the work, and the value's story at its end. The story at the start of a turn goes on
+//! from the story that the pass had seen.
 //!
 //! A desk's passes know each other through one word of an `atomic_table`, whose rule carries what is known from thread to
 //! thread. The table is made before it has a name, as a `Blank`; `Names` then names the table of each desk's number.
