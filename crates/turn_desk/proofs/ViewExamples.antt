@@ -1,7 +1,9 @@
 -- Steps on small views, views that disagree, and turns that are and aren't made.
-use Rattle.std.proofs.Common.{◌≡◌, ◌≤◌, refl, sym, subst, List, [], ◌∷◌, true, false, arith}
+use Rattle.std.proofs.Common.{◌≡◌, ◌≤◌, ◌∙◌, ℕ, zero, suc, refl, ap, sym, subst, List, [], ◌∷◌, true, false, arith}
 use Rattle.std.specs.Prelude.{Some, None}
-use mathlib.Core.Option.{some-ne-none}
+use mathlib.Core.Option.{some, some-ne-none}
+use mathlib.Core.List.{IsPrefix}
+use lib.ListN.{get_elem?}
 use Rattle.account_pictures.specs.declared.talk.Piece.{Piece}
 use Rattle.account_pictures.specs.declared.talk.Piece.TheVariants.{Dialled, Said}
 use Rattle.account_pictures.specs.declared.pictures.Picture.{Picture}
@@ -86,6 +88,34 @@ ahead_of_home agree =
     let less = subst (λ (v : View). 2 ≤ v.turn) here (agree.behind 1 second refl).turn in
     omega arith
 
+story_ahead_of_home : ¬ (ViewsAgree (first_view ∷ record second { turn = 0 } ∷ []))
+story_ahead_of_home agree =
+    let here = home_is 0 first_view (first_view ∷ record second { turn = 0 } ∷ []) agree refl refl in
+    let story = subst (λ (v : View). IsPrefix (dialled ∷ []) v.story) here (agree.behind 1 (record second { turn = 0 }) refl).story in
+    let same = story.1 in
+    cc (same)
+
+unseen_meeting : ¬ (ViewsAgree (first_view ∷ record fifth { turn = 0; met = sight_of second ∷ [] } ∷ []))
+unseen_meeting agree =
+    let seen = (agree.behind 1 (record fifth { turn = 0; met = sight_of second ∷ [] }) refl).met 0 (sight_of second) (omega arith) in
+    let less = seen.0 in
+    omega arith
+
+-- the only view of a list of one
+only_view : (v : View) (i : ℕ) (w : View) → get_elem? (v ∷ []) i ≡ some w → w ≡ v
+only_view v zero w e = cc (e)
+only_view v (suc i) w e = cc (e)
+
+alone_beside : ¬ (ViewsAgree (second ∷ []))
+alone_beside agree =
+    let no : false ≡ true = ap (λ (v : View). v.is_home) (sym (only_view second agree.at agree.home agree.is_there)) ∙ agree.is_home in
+    cc
+
+spent_home : ¬ (ViewsAgree (record first_view { is_spent = true } ∷ []))
+spent_home agree =
+    let no : true ≡ false = ap (λ (v : View). v.is_spent) (sym (only_view (record first_view { is_spent = true }) agree.at agree.home agree.is_there)) ∙ agree.is_unspent in
+    cc
+
 -- a pass of the second turn, and what it has seen after the third
 abbrev before : Seen
 before = seen_of 7 second
@@ -98,6 +128,9 @@ third_turn = record { desk = refl; turn = refl; rises = omega arith; extends = (
 
 turn_of_another_desk : ¬ (MakesTurn before (record after { desk = 8 }) 3)
 turn_of_another_desk made = let same = made.desk in omega arith
+
+turn_of_another_number : ¬ (MakesTurn before after 4)
+turn_of_another_number made = let same = made.turn in omega arith
 
 turn_seen_before : ¬ (MakesTurn before before 2)
 turn_seen_before made = let rises = made.rises in omega arith
