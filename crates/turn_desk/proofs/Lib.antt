@@ -1,0 +1,4 @@
+pub mod Prefixes
+pub mod Agreement
+pub mod Turns
+mod ViewExamples
