@@ -3,7 +3,7 @@
 use crate::work::{Input, result_of, work_named};
 use std::io::{self, Write};
 
-const CASES: [(&str, &str); 9] = [
+const CASES: [(&str, &str); 11] = [
     ("decode-quoted", "caf=c3=a9 =3d 1=\r\n0\n"),
     ("encode-base64", "one line of text"),
     (
@@ -25,6 +25,11 @@ const CASES: [(&str, &str); 9] = [
     ("write-flowed", "a short text"),
     ("tokens", "<p>a &amp; b</p><!-- c --><br/>"),
     ("print-tokens", "<a b=&lt c>&copy;\n====\n"),
+    ("wash", "<p>a<script>b</script><p>c"),
+    (
+        "print-wash",
+        "<img src=x onerror=y><IMG SRC=cid:part7%40n width=9>\n====\n<a href=7.png>b\n====\n",
+    ),
 ];
 
 pub fn write_results(rt: &HostRuntime) -> io::Result<()> {

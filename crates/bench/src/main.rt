@@ -12,6 +12,7 @@ mod parts;
 mod references;
 mod responses;
 mod tokens;
+mod washing;
 mod work;
 
 use std::io::{Read, Write};
@@ -23,7 +24,8 @@ use work::{Input, Work, perform, result_of, work_named};
 const USAGE: &str = "usage: bench WORK [TIMES]
        bench stream-base64|check
 works: decode-base64 decode-quoted encode-base64 encode-quoted tree refer[-below]
-       responses[-1|-64|-4096] read-flowed[-del-sp] write-flowed[-quoted] spans tags tokens print-tokens";
+       responses[-1|-64|-4096] read-flowed[-del-sp] write-flowed[-quoted] spans tags tokens print-tokens
+       wash[-images|-below] print-wash";
 
 /// Writes the microseconds of each run to standard error, and then the result.
 fn run(rt: &HostRuntime, work: Work, times: u32) -> io::Result<()> {

@@ -11,7 +11,7 @@ const PARTS: usize = 1_000;
 const DIRECTORIES: usize = 98;
 
 /// A message of parts that each have a Content-ID and a relative Content-Location.
-fn message_of_parts(alloc: Global) -> Result<String, Memory> {
+pub fn message_of_parts(alloc: Global) -> Result<String, Memory> {
     let mut text = String::from_str(alloc, "Content-Type: multipart/related; boundary=b\n\n")?;
     for number in 0..PARTS {
         write!(text, "--b\nContent-ID: <part{number}@n>\n")?;
@@ -20,7 +20,7 @@ fn message_of_parts(alloc: Global) -> Result<String, Memory> {
     Ok(text)
 }
 
-fn long_base(alloc: Global) -> Result<String, Memory> {
+pub fn long_base(alloc: Global) -> Result<String, Memory> {
     let mut text = String::from_str(alloc, "http://www.e.example")?;
     for _directory in 0..DIRECTORIES {
         text.push_str("/directory")?;

@@ -4,7 +4,7 @@ use html_tokens::{Memory, Part, Scanner, StartTag, read_tokens};
 use std::alloc::Global;
 
 /// The line between two texts, and after the tokens of each.
-const SEPARATOR: &str = "====";
+pub const SEPARATOR: &str = "====";
 
 /// The number of spans. A text has no more of them than bytes.
 pub fn count_spans(text: &str) -> usize {

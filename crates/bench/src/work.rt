@@ -1,6 +1,7 @@
 //! The kinds of work, by their names on the command line.
 
-use crate::{codings, flowed, parts, references, responses, tokens};
+use crate::washing::Choice;
+use crate::{codings, flowed, parts, references, responses, tokens, washing};
 use std::alloc::{AllocError, Global};
 use std::str::from_utf8;
 use transfer_codings::Coding;
@@ -21,6 +22,8 @@ pub enum Work {
     Tags,
     Tokens,
     PrintTokens,
+    Wash(Choice),
+    PrintWash,
 }
 
 /// The input as bytes and, if it is UTF-8, as text; the text of other input is empty.
@@ -60,11 +63,24 @@ pub fn work_named(word: &str) -> Option<Work> {
         "tags" => Some(Work::Tags),
         "tokens" => Some(Work::Tokens),
         "print-tokens" => Some(Work::PrintTokens),
+        "wash" => Some(Work::Wash(Choice {
+            images: false,
+            below_base: false,
+        })),
+        "wash-images" => Some(Work::Wash(Choice {
+            images: true,
+            below_base: false,
+        })),
+        "wash-below" => Some(Work::Wash(Choice {
+            images: false,
+            below_base: true,
+        })),
+        "print-wash" => Some(Work::PrintWash),
         _ => None,
     }
 }
 
-/// Does the work once, and returns how many bytes, parts, references, responses, paragraphs, spans, attributes or tokens came of it.
+/// Does the work once, and returns how many bytes, parts, references, responses, paragraphs, spans, attributes, tokens or bytes of a page came of it.
 pub fn perform(alloc: Global, work: Work, input: &Input<'_>) -> Result<usize, AllocError> {
     match work {
         Work::Decode(_) | Work::EncodeBase64 | Work::EncodeQuoted => {
@@ -79,6 +95,8 @@ pub fn perform(alloc: Global, work: Work, input: &Input<'_>) -> Result<usize, Al
         Work::Tags => Ok(tokens::count_attributes(input.text)),
         Work::Tokens => tokens::count_tokens(alloc, input.text),
         Work::PrintTokens => Ok(tokens::print_tokens(alloc, input.text)?.len()),
+        Work::Wash(choice) => washing::washed_len(alloc, input.text, choice),
+        Work::PrintWash => Ok(washing::print_pages(alloc, input.text)?.len()),
     }
 }
 
@@ -93,12 +111,14 @@ pub fn result_of(alloc: Global, work: Work, input: &Input<'_>) -> Result<Vec<u8>
             Ok(responses::list_counts(alloc, input.bytes, piece)?.into_bytes())
         }
         Work::PrintTokens => Ok(tokens::print_tokens(alloc, input.text)?.into_bytes()),
+        Work::PrintWash => washing::print_pages(alloc, input.text),
         Work::Refer { .. }
         | Work::ReadFlowed { .. }
         | Work::WriteFlowed { .. }
         | Work::Spans
         | Work::Tags
-        | Work::Tokens => {
+        | Work::Tokens
+        | Work::Wash(_) => {
             let count = perform(alloc, work, input)?;
             Ok(format!(in alloc; "{count}\n")?.into_bytes())
         }
