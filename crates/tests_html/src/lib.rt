@@ -15,3 +15,5 @@ mod styles;
 mod tables;
 #[cfg(test)]
 mod tokens;
+#[cfg(test)]
+mod washing;
