@@ -1,5 +1,5 @@
 -- What is shown of a message, and its tokens.
-use Rattle.std.specs.Prelude.{ℕ, Bool, true, false, ◌||◌, List, [], ◌∷◌, ◌++◌, if◌then◌else◌, codes, bytes_eq, Option, Some, None, is_some, unwrap_or, option_and_then}
+use Rattle.std.specs.Prelude.{ℕ, Bool, true, false, ◌||◌, List, [], ◌∷◌, ◌++◌, if◌then◌else◌, codes, chars, bytes_eq, Option, Some, None, is_some, unwrap_or, option_and_then}
 use Rattle.html_syntax.specs.Token.{Token}
 use Rattle.html_syntax.specs.Token.Token.{End}
 use Rattle.html_rules.specs.Tokens.{start_tag}
@@ -11,6 +11,11 @@ use Rattle.mime_tree.specs.declared.choice.Shown.{Shown}
 use Rattle.mime_tree.specs.declared.choice.Shown.TheVariants.{Plain, Flowed, Html, Unread, Nothing}
 use Rattle.mime_tree.specs.Best.{best_of, part_at, shown_as, is_html}
 use Rattle.mime_tree.specs.Tree.{PartValue, TreeValue}
+use Rattle.html_syntax.specs.Tokenizer.{tokens}
+use Rattle.cid_parts.specs.Located.{ReferencesValue, located_parts, base_of}
+use Rattle.wash_attributes.specs.declared.place.Place.{Place}
+use Rattle.wash_attributes.specs.Addresses.{given_of}
+use Rattle.html_wash.specs.Wash.{wash}
 use Rattle.mail_pages.specs.Text.{with_line_feeds}
 use Rattle.mail_pages.specs.Frame.{text, element, line_end}
 
@@ -33,23 +38,39 @@ abbrev pub choice : TreeValue → Option (List ℕ) → Option Shown
 choice tree None = Some (best_of tree)
 choice tree (Some section) = option_and_then shown_if_requested (part_at section tree.parts)
 
--- kinds that aren't shown yet: HTML and flowed text
+-- the kind that isn't shown yet: flowed text
 abbrev pub is_unbuilt : Shown → Bool
 is_unbuilt (Plain section) = false
 is_unbuilt (Flowed section del_sp) = true
-is_unbuilt (Html section) = true
+is_unbuilt (Html section) = false
 is_unbuilt (Unread section) = false
 is_unbuilt Nothing = false
 
 -- ---- its tokens
 
--- the text of a part, in UTF-8: decoded by its coding and its charset, with CR LF and lone CR as LF
+-- the text of a part, in UTF-8: decoded by its coding and its charset
+abbrev pub decoded_text : PartValue → List ℕ
+decoded_text p = text_in (unwrap_or (charset_named p.charset) Utf8) (decoded p.coding p.bytes)
+
+-- the text of a part, with CR LF and lone CR as LF
 abbrev pub text_of_part : PartValue → List ℕ
-text_of_part p = with_line_feeds (text_in (unwrap_or (charset_named p.charset) Utf8) (decoded p.coding p.bytes))
+text_of_part p = with_line_feeds (decoded_text p)
 
 -- a plain text
 unfoldable pub plain_text : List ℕ → List Token
 plain_text content = start_tag (codes "pre") ∷ line_end ∷ text content ++ End (codes "pre") ∷ []
+
+-- where the site has the parts of the message
+abbrev pub site_place : Place
+site_place = record { prefix = codes "/part/0/0/"; suffix = codes "?f=" }
+
+-- what the addresses in an HTML part refer to: its Content-Location is their base
+abbrev pub references_in : List PartValue → PartValue → ReferencesValue
+references_in parts p = record { parts = located_parts parts; base = base_of p.location }
+
+-- HTML: the washed tokens of its text
+unfoldable pub washed_html : List PartValue → Bool → PartValue → List Token
+washed_html parts images p = wash (given_of (references_in parts p) site_place images) (tokens (chars (decoded_text p)))
 
 -- a paragraph in place of a text
 unfoldable pub paragraph : List ℕ → List Token
@@ -66,15 +87,19 @@ abbrev pub unread_part : Option PartValue → List Token
 unread_part (Some p) = paragraph (unread_words p)
 unread_part None = []
 
--- the tokens of what is shown
-unfoldable pub mail_of : List PartValue → Shown → List Token
-mail_of parts (Plain section) = plain_part (part_at section parts)
-mail_of parts (Unread section) = unread_part (part_at section parts)
-mail_of parts Nothing = paragraph (codes "No text to show.")
-mail_of parts (Flowed section del_sp) = []
-mail_of parts (Html section) = []
+abbrev pub html_part : List PartValue → Bool → Option PartValue → List Token
+html_part parts images (Some p) = washed_html parts images p
+html_part parts images None = []
+
+-- the tokens of what is shown; `images` tells whether remote pictures were requested
+unfoldable pub mail_of : List PartValue → Bool → Shown → List Token
+mail_of parts images (Plain section) = plain_part (part_at section parts)
+mail_of parts images (Unread section) = unread_part (part_at section parts)
+mail_of parts images Nothing = paragraph (codes "No text to show.")
+mail_of parts images (Flowed section del_sp) = []
+mail_of parts images (Html section) = html_part parts images (part_at section parts)
 
 -- no tokens if nothing is shown
-abbrev pub mail_or_none : List PartValue → Option Shown → List Token
-mail_or_none parts (Some shown) = mail_of parts shown
-mail_or_none parts None = []
+abbrev pub mail_or_none : List PartValue → Bool → Option Shown → List Token
+mail_or_none parts images (Some shown) = mail_of parts images shown
+mail_or_none parts images None = []

@@ -1,11 +1,13 @@
 //! The pages of the site: which tokens each page has, and functions that write them.
 //!
 //! [`show_page`] is the page of a message. Its contract has the promise about strangers' messages: the page reads as its
-//! defined tokens, all of them are allowed, and a browser loads nothing of itself but the style sheet.
+//! defined tokens, all of them are allowed, and a browser loads nothing of itself but the style sheet, the message's own parts and, if
+//! requested, remote pictures.
 #![tactic(auto)]
 
 mod elements;
 mod frame;
+mod html;
 mod mail;
 mod page;
 mod parts;

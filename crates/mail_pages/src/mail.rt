@@ -5,6 +5,7 @@ ghost use Rattle.mail_pages.specs.Frame.{with_tokens, text};
 ghost use Rattle.mail_pages.specs.Mail.{shown_if_requested, is_text_part, text_shown_as, choice, is_unbuilt, plain_text, text_of_part, unread_words, paragraph, mail_of};
 
 use crate::elements::{open, write_element};
+use crate::html::write_html;
 use crate::text::write_body;
 use mime_tree::{Coding, Part, Section, Shown, Tree, best, part, shown_as};
 use page_writer::{Memory, PageOut};
@@ -55,8 +56,8 @@ pub fn is_unbuilt(shown: &Shown) -> bool
     ensures { result ≡ is_unbuilt shown.now }
 {
     match shown {
-        Shown::Flowed(..) | Shown::Html(..) => true,
-        Shown::Plain(..) | Shown::Unread(..) | Shown::Nothing => false,
+        Shown::Flowed(..) => true,
+        Shown::Plain(..) | Shown::Html(..) | Shown::Unread(..) | Shown::Nothing => false,
     }
 }
 
@@ -66,10 +67,11 @@ pub fn write_mail(
     alloc: Global,
     out: &mut PageOut,
     tree: &Tree<'_>,
+    images: bool,
     shown: &Shown,
 ) -> Result<(), Memory>
     requires { IsTrue (takes_tags out.old.opened) }
-    ensures { OnOk result (out.new ≡ with_tokens out.old (mail_of tree.now.parts shown.now) out.old.opened) }
+    ensures { OnOk result (out.new ≡ with_tokens out.old (mail_of tree.now.parts images shown.now) out.old.opened) }
 {
     match shown {
         Shown::Plain(section) => match part(tree, section) {
@@ -81,7 +83,11 @@ pub fn write_mail(
             None => Ok(()),
         },
         Shown::Nothing => write_element(alloc, out, "p", "No text to show."),
-        Shown::Flowed(..) | Shown::Html(..) => Ok(()),
+        Shown::Html(section) => match part(tree, section) {
+            Some(part) => write_html(alloc, out, tree, images, part),
+            None => Ok(()),
+        },
+        Shown::Flowed(..) => Ok(()),
     }
 }
 

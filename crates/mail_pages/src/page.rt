@@ -19,18 +19,19 @@ pub fn message_page(
     alloc: Global,
     message: &[u8],
     part: &Option<Section>,
+    images: bool,
     tree: &Tree<'_>,
     shown: &Shown,
 ) -> Result<PageBytes, Memory>
     requires tree { tree.now ≡ tree_of message.now }
     requires choice { choice tree.now part.now ≡ Some shown.now }
-    ensures bytes { IfOk result (λ page. page ≡ page_bytes message.now part.now) }
-    ensures reads { IfOk result (λ page. tokens_of_bytes page ≡ page_of message.now part.now) }
-    ensures nested { OnOk result (IsNested (page_of message.now part.now)) }
+    ensures bytes { IfOk result (λ page. page ≡ page_bytes message.now part.now images) }
+    ensures reads { IfOk result (λ page. tokens_of_bytes page ≡ page_of message.now part.now images) }
+    ensures nested { OnOk result (IsNested (page_of message.now part.now images)) }
 {
     let mut out = PageOut::new(alloc);
     write_before(alloc, &mut out, tree.fields())?;
-    write_mail(alloc, &mut out, tree, shown)?;
+    write_mail(alloc, &mut out, tree, images, shown)?;
     write_after(alloc, &mut out, tree)?;
     Ok(out.finish())
 }

@@ -29,15 +29,17 @@ impl From<AllocError> for PageFault {
     }
 }
 
-/// The page of a message: with the part of a section, or with the best part (`best` of mime_tree).
+/// The page of a message: with the part of a section, or with the best part (`best` of mime_tree). `images` tells whether HTML may load
+/// remote pictures.
 pub fn show_page(
     alloc: Global,
     message: &[u8],
     part: &Option<Section>,
+    images: bool,
 ) -> Result<PageBytes, PageFault>
     ensures is_shown { OnOk result (IsShown message.now part.now) }
-    ensures equals { IfOk result (λ page. page ≡ page_bytes message.now part.now) }
-    ensures is_safe { OnOk result (IsSafe message.now part.now) }
+    ensures equals { IfOk result (λ page. page ≡ page_bytes message.now part.now images) }
+    ensures is_safe { OnOk result (IsSafe message.now part.now images) }
     ensures only_if_unbuilt { IsErrOf result PageFault.NotBuilt → IsUnbuilt message.now part.now }
     ensures only_if_missing { IsErrOf result PageFault.NoSuchPart → IsMissing message.now part.now }
 {
@@ -48,5 +50,5 @@ pub fn show_page(
     if is_unbuilt(&shown) {
         return Err(PageFault::NotBuilt);
     }
-    Ok(message_page(alloc, message, part, &tree, &shown)?)
+    Ok(message_page(alloc, message, part, images, &tree, &shown)?)
 }

@@ -20,7 +20,7 @@ pub const LIMIT: usize = 26_214_400;
 
 /// Reads a message to its end, and writes its page.
 ///
-/// `words` are those after the program's name. Wrong words are refused before anything is read, and a message that has no page
+/// `words` are those after the program's name: `show`, and in either order `--images` and `--part SECTION`. Wrong words are refused before anything is read, and a message that has no page
 /// before anything is written.
 pub fn run_show<R: Source, W: Sink>(
     alloc: Global,
@@ -36,8 +36,8 @@ pub fn run_show<R: Source, W: Sink>(
     ensures writes_safe_page { result ≡ DONE → ReadsRequest (map string_bytes words.now) LIMIT (R.left source.old) (R.left source.new) (IsWritten (W.taken sink.old) (W.taken sink.new)) }
     ensures writes_prefix { result ≡ WRITE_FAULT → ReadsRequest (map string_bytes words.now) LIMIT (R.left source.old) (R.left source.new) (IsBegun (W.taken sink.old) (W.taken sink.new)) }
 
-    ensures only_if_unbuilt { result ≡ NOT_BUILT → ReadsRequest (map string_bytes words.now) LIMIT (R.left source.old) (R.left source.new) IsUnbuilt }
-    ensures only_if_missing { result ≡ NO_SUCH_PART → ReadsRequest (map string_bytes words.now) LIMIT (R.left source.old) (R.left source.new) IsMissing }
+    ensures only_if_unbuilt { result ≡ NOT_BUILT → ReadsRequest (map string_bytes words.now) LIMIT (R.left source.old) (R.left source.new) (λ message part images. IsUnbuilt message part) }
+    ensures only_if_missing { result ≡ NO_SUCH_PART → ReadsRequest (map string_bytes words.now) LIMIT (R.left source.old) (R.left source.new) (λ message part images. IsMissing message part) }
     ensures only_if_long { result ≡ TOO_LONG → ReadsPast LIMIT (R.left source.old) (R.left source.new) }
     ensures refuses_every_long { RefusesLong LIMIT (R.left source.old) result }
     ensures reads_prefix { result ≡ READ_FAULT → ReadsSome LIMIT (R.left source.old) (R.left source.new) }
@@ -53,7 +53,7 @@ pub fn run_show<R: Source, W: Sink>(
         return WRONG_WORDS;
     };
     match read_to_end(alloc, source, LIMIT) {
-        Ok(message) => show(alloc, &message, &request.part, sink),
+        Ok(message) => show(alloc, &message, &request.part, request.images, sink),
         Err(InputFault::Failed) => READ_FAULT,
         Err(InputFault::Long) => TOO_LONG,
         Err(InputFault::Memory) => OUT_OF_MEMORY,
@@ -61,11 +61,17 @@ pub fn run_show<R: Source, W: Sink>(
 }
 
 /// Writes the page of a message.
-fn show<W: Sink>(alloc: Global, message: &[u8], part: &Option<Section>, sink: &mut W) -> Status
+fn show<W: Sink>(
+    alloc: Global,
+    message: &[u8],
+    part: &Option<Section>,
+    images: bool,
+    sink: &mut W,
+) -> Status
     ensures is_shown { result ≡ DONE → IsShown message.now part.now }
-    ensures writes_page { result ≡ DONE → Appends (W.taken sink.old) (W.taken sink.new) (page_bytes message.now part.now) }
-    ensures is_safe { result ≡ DONE → IsSafe message.now part.now }
-    ensures writes_prefix { result ≡ WRITE_FAULT → IsBegun (W.taken sink.old) (W.taken sink.new) message.now part.now }
+    ensures writes_page { result ≡ DONE → Appends (W.taken sink.old) (W.taken sink.new) (page_bytes message.now part.now images) }
+    ensures is_safe { result ≡ DONE → IsSafe message.now part.now images }
+    ensures writes_prefix { result ≡ WRITE_FAULT → IsBegun (W.taken sink.old) (W.taken sink.new) message.now part.now images }
     ensures only_if_unbuilt { result ≡ NOT_BUILT → IsUnbuilt message.now part.now }
     ensures only_if_missing { result ≡ NO_SUCH_PART → IsMissing message.now part.now }
     ensures write_fault_has_cause { result ≡ WRITE_FAULT → Rose (W.faults sink.old) (W.faults sink.new) }
@@ -73,7 +79,7 @@ fn show<W: Sink>(alloc: Global, message: &[u8], part: &Option<Section>, sink: &m
     ensures writes_nothing_else { result ≢ DONE → result ≢ WRITE_FAULT → Keeps (W.taken sink.old) (W.taken sink.new) }
     ensures is_listed { (result ≡ DONE) ⊎ (result ≡ WRITE_FAULT) ⊎ (result ≡ OUT_OF_MEMORY) ⊎ (result ≡ NOT_BUILT) ⊎ (result ≡ NO_SUCH_PART) }
 {
-    let page = match show_page(alloc, message, part) {
+    let page = match show_page(alloc, message, part, images) {
         Ok(page) => page,
         Err(PageFault::NotBuilt) => return NOT_BUILT,
         Err(PageFault::NoSuchPart) => return NO_SUCH_PART,
