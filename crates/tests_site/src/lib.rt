@@ -2,4 +2,6 @@
 #![tactic(auto)]
 
 #[cfg(test)]
+mod html;
+#[cfg(test)]
 mod show;
