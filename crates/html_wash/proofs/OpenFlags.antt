@@ -54,13 +54,13 @@ among_more elements x name =
 pub one_more : (flags more : List Bool) (elements items : List Element) (x : Element) → FlagsOpen flags elements → more ≡ set flags (number_of x) true → items ≡ elements ++ x ∷ [] → FlagsOpen more items
 one_more flags more elements items x f m i =
     let all : FlagsOpen (set flags (number_of x) true) (elements ++ x ∷ []) =
-      record {
-        size = set_size flags (number_of x) true ∙ f.size;
-        each = λ e h. elim (cases_Bool (is_among (map name_of elements) (name_of e))) [
-          | inl before ↦ flag_more flags elements x e f before
-          | inr new ↦ flag_one flags x e f.size (ap (λ b. b || same (name_of x) (name_of e)) (sym new) ∙ sym (among_more elements x (name_of e)) ∙ h)
-        ];
-      } in
+    record {
+      size = set_size flags (number_of x) true ∙ f.size;
+      each = λ e h. elim (cases_Bool (is_among (map name_of elements) (name_of e))) [
+        | inl before ↦ flag_more flags elements x e f before
+        | inr new ↦ flag_one flags x e f.size (ap (λ b. b || same (name_of x) (name_of e)) (sym new) ∙ sym (among_more elements x (name_of e)) ∙ h)
+      ];
+    } in
     rw (m, i) all
 
 pub one_less : (flags : List Bool) (elements rest : List Element) (x : Element) → FlagsOpen flags elements → elements ≡ rest ++ x ∷ [] → FlagsOpen flags rest
@@ -76,13 +76,13 @@ among_of_same elements x e is = ap (is_among (map name_of elements)) (sym (same-
 pub one_gone : (flags less : List Bool) (rest : List Element) (x : Element) → FlagsOpen flags rest → is_among (map name_of rest) (name_of x) ≡ false → less ≡ set flags (number_of x) false → FlagsOpen less rest
 one_gone flags less rest x f gone m =
     let all : FlagsOpen (set flags (number_of x) false) rest =
-      record {
-        size = set_size flags (number_of x) false ∙ f.size;
-        each = λ e h. elim (cases_Bool (same (name_of x) (name_of e))) [
-          | inl is ↦ let no : true ≡ false = sym h ∙ among_of_same rest x e is ∙ gone in absurd cc
-          | inr other ↦ get_or-set_other flags (number_of x) (number_of e) false false (other_number x e other) ∙ f.each e h
-        ];
-      } in
+    record {
+      size = set_size flags (number_of x) false ∙ f.size;
+      each = λ e h. elim (cases_Bool (same (name_of x) (name_of e))) [
+        | inl is ↦ let no : true ≡ false = sym h ∙ among_of_same rest x e is ∙ gone in absurd cc
+        | inr other ↦ get_or-set_other flags (number_of x) (number_of e) false false (other_number x e other) ∙ f.each e h
+      ];
+    } in
     rw m all
 
 swapped : (a b : Bool) → (a || (b || false)) ≡ (b || a)

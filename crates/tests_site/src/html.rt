@@ -105,10 +105,7 @@ fn washes_html(rt: HostRuntime) -> Result<(), Fail> {
             "<a href=\"jav&#9;ascript:1\">t</a><a href=\" HTTPS://E.example/a b\">u</a>",
             "<a>t</a><a href=\"https://e.example/a%20b\" rel=\"noopener noreferrer\" target=\"_blank\">u</a>",
         ),
-        (
-            "<!--><b>x</b><!-- --!><i>y",
-            "<b>x</b><i>y</i>",
-        ),
+        ("<!--><b>x</b><!-- --!><i>y", "<b>x</b><i>y</i>"),
         (
             "</div></div><p>a<p>b<table><tr><td>1<td>2</table>",
             "<p>a</p><p>b</p><table><tr><td>1</td><td>2</td></tr></table>",
@@ -134,8 +131,10 @@ fn washes_html(rt: HostRuntime) -> Result<(), Fail> {
 #[test]
 fn shows_pictures(rt: HostRuntime) -> Result<(), Fail> {
     let alloc = rt.alloc();
-    let unasked = "<table width=\"600\"><tr><td><img src=\"/part/0/0/2.2?f=\" width=\"600\" height=\"80\"><p style=\"color: #333; margin: 0 0 10px\">Caf\u{E9}</p><img><img src=\"/part/0/0/2.3?f=\"></td></tr></table>";
-    let asked = "<table width=\"600\"><tr><td><img src=\"/part/0/0/2.2?f=\" width=\"600\" height=\"80\"><p style=\"color: #333; margin: 0 0 10px\">Caf\u{E9}</p><img src=\"http://t.example/o\"><img src=\"/part/0/0/2.3?f=\"></td></tr></table>";
+    let unasked =
+        "<table width=\"600\"><tr><td><img src=\"/part/0/0/2.2?f=\" width=\"600\" height=\"80\"><p style=\"color: #333; margin: 0 0 10px\">Caf\u{E9}</p><img><img src=\"/part/0/0/2.3?f=\"></td></tr></table>";
+    let asked =
+        "<table width=\"600\"><tr><td><img src=\"/part/0/0/2.2?f=\" width=\"600\" height=\"80\"><p style=\"color: #333; margin: 0 0 10px\">Caf\u{E9}</p><img src=\"http://t.example/o\"><img src=\"/part/0/0/2.3?f=\"></td></tr></table>";
     let pictures = "<img><img src=\"/part/0/0/2.2?f=\">";
     for (words, page, want) in [
         (["show"].as_slice(), NEWSLETTER_PAGE, unasked),

@@ -328,7 +328,10 @@ fn answers_wrong_words(rt: HostRuntime) -> Result<(), Fail> {
             "a number with a zero first",
         ),
         (["show", "--part", "1", "1"].as_slice(), "a fourth word"),
-        (["show", "--images", "--images"].as_slice(), "an option twice"),
+        (
+            ["show", "--images", "--images"].as_slice(),
+            "an option twice",
+        ),
         (
             ["show", "--part", "--images", "1"].as_slice(),
             "an option before its section",
