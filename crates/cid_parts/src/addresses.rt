@@ -1,5 +1,5 @@
 //! Reads an address: its scheme, its URL, and what a URL is by itself.
-ghost use Rattle.std.specs.Prelude.{◌≡◌, ◌&&◌, ◌||◌, IfOk, if◌then◌else◌, Some, None, drop, codes};
+ghost use Rattle.std.specs.Prelude.{◌≡◌, true, ◌&&◌, ◌||◌, IfOk, if◌then◌else◌, Some, None, drop, codes};
 ghost use Rattle.std.specs.List.{list_all};
 ghost use Rattle.std.specs.Option.{option_copied};
 ghost use Rattle.url.specs.Parts.{serialize};
@@ -40,13 +40,25 @@ pub fn read_url(alloc: Global, base: Option<&Url>, address: &str) -> Result<Opti
     }
 }
 
-/// Returns the base that a Content-Location gives.
+/// The longest base in bytes. Each relative address is read with a copy of its base, and a message may have millions of them.
+const BASE_LIMIT: usize = 8_192;
+
+/// Returns the base that a Content-Location gives. A base that is longer than the limit is answered as want of memory.
 pub fn read_base(alloc: Global, location: Option<&str>) -> Result<Option<Url>, AllocError>
     ensures { IfOk result (λ base. base ≡ base_of (option_copied location.entry)) }
 {
     match location {
-        Some(location) => read_url(alloc, None, location),
+        Some(location) => within_limit(read_url(alloc, None, location)?),
         None => Ok(None),
+    }
+}
+
+fn within_limit(base: Option<Url>) -> Result<Option<Url>, AllocError>
+    ensures { IfOk result (λ same. same ≡ base) }
+{
+    match base {
+        Some(url) if url.as_str().len() > BASE_LIMIT => Err(AllocError),
+        base => Ok(base),
     }
 }
 
@@ -65,9 +77,10 @@ fn is_address_byte(byte: u8) -> bool
 
 #[tactic(auto, unfolding(html_rules::specs::Values::is_remote))]
 fn is_remote(text: &str) -> bool
+    requires { list_all is_address_char text.now ≡ true }
     ensures { result ≡ is_remote text.now }
 {
-    is_web(text) && has_address_chars(text)
+    is_web(text)
 }
 
 fn is_web(text: &str) -> bool
@@ -78,15 +91,10 @@ fn is_web(text: &str) -> bool
 
 #[tactic(auto, unfolding(html_rules::specs::Values::is_link))]
 fn is_link(text: &str) -> bool
+    requires { list_all is_address_char text.now ≡ true }
     ensures { result ≡ is_link text.now }
 {
-    is_remote(text) || is_mailto(text)
-}
-
-fn is_mailto(text: &str) -> bool
-    ensures { result ≡ (begins_with (codes "mailto:") text.now && list_all is_address_char text.now) }
-{
-    begins_with("mailto:", text) && has_address_chars(text)
+    is_remote(text) || begins_with("mailto:", text)
 }
 
 #[tactic(auto, using(crate::proofs::Words::begins_with_take))]
@@ -96,9 +104,10 @@ fn begins_with(word: &str, text: &str) -> bool
     text.as_bytes().starts_with(word.as_bytes())
 }
 
-/// Returns what a URL is by itself.
+/// Returns what a URL without spaces and controls is by itself.
 #[tactic(auto, unfolding(crate::specs::Refer::ref_of_text))]
 pub fn ref_of_url(url: Url) -> Ref
+    requires { list_all is_address_char (serialize url) ≡ true }
     ensures equals { result ≡ ref_of_text (serialize url) }
     ensures safe { IsSafe result }
 {

@@ -46,7 +46,11 @@ fn add_id<'t>(ids: &mut Ids<'t>, part: &'t Part<'_>) -> Result<(), AllocError>
     }
 }
 
-/// Maps the Content-Locations of the parts, each read with the base. One that doesn't read is none.
+/// The most bytes that the URLs of all parts may have. With a base they may be a thousand times as long as the message.
+const ADDRESSES_LIMIT: usize = 134_217_728;
+
+/// Maps the Content-Locations of the parts, each read with the base. One that doesn't read is none. URLs beyond the limit are answered
+/// as want of memory.
 pub fn map_addresses(
     alloc: Global,
     parts: &[Part<'_>],
@@ -55,31 +59,38 @@ pub fn map_addresses(
     ensures { IfOk result (λ addresses. MapsAddresses (option_copied base.entry) addresses (located_parts parts.now)) }
 {
     let mut addresses = BTreeMap::new(alloc);
+    let mut room = ADDRESSES_LIMIT;
     for part in parts {
-        add_address(alloc, &mut addresses, part, base)?;
+        room = add_address(alloc, &mut addresses, part, base, room)?;
     }
     Ok(addresses)
 }
 
+/// Maps the Content-Location of a part, and returns the room that is left.
 fn add_address(
     alloc: Global,
     addresses: &mut Addresses,
     part: &Part<'_>,
     base: Option<&Url>,
-) -> Result<(), AllocError>
+    room: usize,
+) -> Result<usize, AllocError>
     ensures { OnOk result (AddsAddress (option_copied base.entry) addresses.old addresses.new part.now) }
 {
     if part.is_enclosed() {
-        return Ok(());
+        return Ok(room);
     }
     let Some(address) = read_location(alloc, part, base)? else {
-        return Ok(());
+        return Ok(room);
     };
+    if address.len() > room {
+        return Err(AllocError);
+    }
+    let left = room - address.len();
     if addresses.contains_key(address.as_str()) {
-        return Ok(());
+        return Ok(left);
     }
     addresses.insert(address, *part.section())?;
-    Ok(())
+    Ok(left)
 }
 
 /// Returns the text of the URL that a part's Content-Location reads as.

@@ -139,7 +139,9 @@ pub fn read_stretch(alloc: Global, read_as: ReadAs, stretch: &str) -> Result<Str
     ensures { IfOk result (λ t. chars (string_bytes t) ≡ what_is_read read_as (input stretch.now)) }
 {
     let plain = plain_len(stretch);
-    let mut text = String::from_str(alloc, &stretch[..plain])?;
+    // Few references are shorter than their characters.
+    let mut text = String::with_capacity(alloc, stretch.len())?;
+    text.push_str(&stretch[..plain])?;
     if plain < stretch.len() {
         push_stretch(&mut text, read_as, &stretch[plain..])?;
     }

@@ -18,6 +18,7 @@ pub mod TagValues
 pub mod TagAttributes
 pub mod Lowering
 pub mod Words
+pub mod Initials
 pub mod CommentRuns
 pub mod Marks
 pub mod OpeningRuns

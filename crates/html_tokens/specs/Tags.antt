@@ -1,5 +1,6 @@
 -- The bytes of tags, and the texts of their names and attributes.
 use Rattle.std.specs.Prelude.{◌≡◌, ◌≢◌, ◌⊎◌, ℕ, Bool, false, if◌then◌else◌, not, ◌&&◌, ◌||◌, ◌==◌, List, [], ◌∷◌, ◌++◌, take, drop, map, Option, MatchOption}
+use Rattle.std.specs.Char.{is_ascii_alphabetic}
 use Rattle.html_syntax.specs.Token.{Attribute, Token}
 use Rattle.html_syntax.specs.Characters.{carriage_return, quotation_mark, apostrophe, solidus, equals_sign, greater_than, is_between, is_space, lower}
 use Rattle.html_syntax.specs.States.{Tag, has_name, keep, keep_flag, emit, replace_null}
@@ -39,6 +40,16 @@ in_class class.UnquotedValue b = not (is_blank b || b == greater_than)
 -- the name of a stretch: ASCII letters lowered, U+0000 as U+FFFD
 abbrev pub read_name : List ℕ → List ℕ
 read_name bytes = map lower (map replace_null (input bytes))
+
+-- the letter that a name begins with, or 0
+abbrev pub initial : List ℕ → ℕ
+initial [] = 0
+initial (c ∷ more) = if is_between 0x61 0x7A c then c else 0
+
+-- the letter that a stretch begins with, lowered, or 0
+abbrev pub initial_byte : List ℕ → ℕ
+initial_byte [] = 0
+initial_byte (b ∷ more) = if is_ascii_alphabetic b then lower b else 0
 
 -- a visible ASCII character that isn't an upper alpha
 abbrev pub is_word_char : ℕ → Bool

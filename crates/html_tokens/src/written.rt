@@ -4,7 +4,7 @@ ghost use Rattle.std.specs.Prelude.{◌≡◌, true, chars, string_bytes, IfOk};
 ghost use Rattle.std.specs.List.{list_all};
 ghost use Rattle.html_syntax.specs.States.{same};
 ghost use Rattle.std.specs.Cow.{cow_str_bytes};
-ghost use Rattle.html_tokens.specs.Tags.{read_name, read_value, is_word_char};
+ghost use Rattle.html_tokens.specs.Tags.{initial, initial_byte, read_name, read_value, is_word_char};
 
 use crate::Memory;
 use crate::lexeme::is_plain;
@@ -36,7 +36,32 @@ fn is_word(name: &str, word: &str) -> bool
     name.eq_ignore_ascii_case(word)
 }
 
+/// The letter that the bytes begin with, lowered, or 0.
+fn initial_byte(bytes: &[u8]) -> u8
+    ensures { result ≡ initial_byte bytes.now }
+{
+    match bytes {
+        [first, ..] if first.is_ascii_alphabetic() => first.to_ascii_lowercase(),
+        _ => 0,
+    }
+}
+
+/// The letter that a name begins with, lowered, or 0.
+#[tactic(auto, using(crate::proofs::Initials::initial_read))]
+fn initial(name: &str) -> u8
+    ensures { result ≡ initial (read_name name.now) }
+{
+    initial_byte(name.as_bytes())
+}
+
 impl<'t> WrittenName<'t> {
+    /// Returns the letter that the name begins with, or 0 if it begins with something else.
+    pub fn initial(&self) -> u8
+        ensures { result ≡ initial self.now }
+    {
+        initial(self.text)
+    }
+
     /// Whether the name reads as a word of visible ASCII characters without capital letters. Compares no bytes if the lengths differ.
     pub fn reads_as(&self, word: &str) -> bool
         requires { list_all is_word_char word.now ≡ true }

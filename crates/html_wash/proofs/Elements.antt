@@ -1,8 +1,9 @@
 -- Elements and their names.
-use Rattle.std.proofs.Common.{◌≡◌, ◌<◌, ℕ, Bool, true, false, [], arith, refl, sym, ap, ◌∙◌, nat_eq, slice_index_or, eq-eqb, eqb-true}
+use Rattle.std.proofs.Common.{◌≡◌, ◌<◌, ℕ, Bool, true, false, not, ◌||◌, ◌==◌, List, [], arith, inl, inr, refl, sym, ap, ◌∙◌, nat_eq, slice_index_or, eq-eqb, eqb-true}
+use Rattle.std.proofs.lemmas.Bool.{cases_Bool}
 use Rattle.std.specs.List.{list_all, position_or_len}
-use Rattle.html_syntax.specs.Tokenizer.{same}
-use Rattle.html_tokens.specs.Tags.{is_word_char}
+use Rattle.html_syntax.specs.Tokenizer.{same, is_among}
+use Rattle.html_tokens.specs.Tags.{is_word_char, initial}
 use Rattle.html_rules.specs.Tables.{Name, message_elements, is_message_element}
 use Rattle.html_rules.proofs.Facts.{among_all, same-true, same-refl}
 use Rattle.html_wash.specs.Elements.{name_of, number_of}
@@ -71,3 +72,26 @@ same_tags a b =
             | false ↦ λ s. refl
           ] refl
     ] refl
+
+-- ---- elements by the letter that their names begin with
+
+-- the name is listed, or begins with another letter
+abbrev pub is_covered : ℕ → List Name → Name → Bool
+is_covered letter listed name = not (initial name == letter) || is_among listed name
+
+not_covered : {P : Type 0} (same listed : Bool) → same ≡ true → listed ≡ false → (not same || listed) ≡ true → P
+not_covered true true s l h = absurd cc
+not_covered true false s l h = absurd cc
+not_covered false listed s l h = absurd cc
+
+pub found_by_initial : (letter : ℕ) (listed : List Name) → list_all (is_covered letter listed) message_elements ≡ true → list_all is_message_element listed ≡ true
+    → (name : Name) → initial name ≡ letter → is_among listed name ≡ is_message_element name
+unfolding is_message_element
+found_by_initial letter listed covered listed_all name e = elim (cases_Bool (is_among listed name)) [
+  | inl there ↦ there ∙ sym (among_all is_message_element listed name listed_all there)
+  | inr not_there ↦ elim (cases_Bool (is_message_element name)) [
+    | inl is ↦
+        not_covered (initial name == letter) (is_among listed name) (eq-eqb (initial name) letter e) not_there (among_all (is_covered letter listed) message_elements name covered is)
+    | inr other ↦ not_there ∙ sym other
+  ]
+]

@@ -1,13 +1,13 @@
 -- The flags of open elements, and what isn't open.
-use Rattle.std.proofs.Common.{◌≡◌, ◌≢◌, ◌<◌, ℕ, zero, suc, ◌+◌, ◌-◌, Bool, true, false, not, ◌||◌, ◌&&◌, cond, if◌then◌else◌, List, [], ◌∷◌, ◌++◌, length, map, take, drop, reverse, get_or, set, refl, sym, ap, subst, ◌∙◌, arith, inl, inr}
+use Rattle.std.proofs.Common.{◌≡◌, ◌≢◌, ◌<◌, ℕ, zero, suc, Bool, true, false, not, ◌||◌, if◌then◌else◌, List, [], ◌∷◌, ◌++◌, length, map, take, drop, reverse, get_or, set, refl, sym, ap, subst, ◌∙◌, arith, inl, inr}
 use Rattle.std.proofs.lemmas.Bool.{cases_Bool}
-use Rattle.std.proofs.lemmas.List.{map-append, reverse-append, length-reverse, length-take, get_or-set_same, get_or-set_other, length-set}
+use Rattle.std.proofs.lemmas.List.{map-append, reverse-append, length-reverse, get_or-set_same, get_or-set_other, length-set}
 use Rattle.std.proofs.lemmas.List.Folds.{list_any-append, list_all-append}
-use Rattle.std.specs.List.{list_all, list_any, prefix_len, suffix_len, position_or_len, before_first}
+use Rattle.std.specs.List.{list_all, prefix_len, suffix_len, position_or_len}
 use Rattle.html_syntax.specs.Tokenizer.{same, is_among}
 use Rattle.html_rules.specs.Tables.{Name, message_elements}
 use Rattle.html_rules.proofs.Facts.{and_true, or_false, no_of, same-true, same-refl}
-use Rattle.html_wash.specs.Closings.{Lookup, region, count_to_outermost, looked_up, blocks, begins_with_element, ended}
+use Rattle.html_wash.specs.Closings.{Lookup, region, looked_up, blocks, begins_with_element, ended}
 use Rattle.html_wash.specs.Elements.{name_of, number_of}
 use Rattle.html_wash.specs.Seen.{stack, FlagsOpen, are_absent}
 use Rattle.html_wash.specs.declared.element.Element.{Element}

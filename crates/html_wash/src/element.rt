@@ -1,7 +1,8 @@
 //! The elements that a message may have.
 ghost use Rattle.std.specs.Prelude.{◌<◌, ◌≡◌, false, MatchOption, map};
 ghost use Rattle.html_syntax.specs.Tokenizer.{same, is_among};
-ghost use Rattle.html_rules.specs.Tables.{is_void as is_void_name, is_message_element, is_dropped_element};
+ghost use Rattle.html_tokens.specs.Tags.{initial as initial_of};
+ghost use Rattle.html_rules.specs.Tables.{Name, is_void as is_void_name, is_message_element, is_dropped_element};
 ghost use Rattle.html_wash.specs.Elements.{name_of, number_of};
 
 use html_tokens::WrittenName;
@@ -164,22 +165,6 @@ impl Element {
     }
 }
 
-/// The elements that most tags of messages are of, which are looked up first.
-static FREQUENT: [Element; 12] = [
-    Element::Td,
-    Element::Tr,
-    Element::A,
-    Element::Br,
-    Element::P,
-    Element::Span,
-    Element::Img,
-    Element::Table,
-    Element::Div,
-    Element::Font,
-    Element::B,
-    Element::Li,
-];
-
 static ELEMENTS: [Element; 58] = [
     Element::A,
     Element::Abbr,
@@ -253,15 +238,78 @@ fn named_in(elements: &[Element], name: &WrittenName) -> Option<Element>
     None
 }
 
+/// The elements whose names begin with the letter, or all elements. Those that messages have most often come first.
+fn elements_with(initial: u8) -> &'static [Element]
+    ensures { (name : Name) → initial_of name ≡ initial → is_among (map name_of result.now) name ≡ is_message_element name }
+{
+    match initial {
+        b'a' => &[Element::A, Element::Abbr, Element::Address],
+        b'b' => &[
+            Element::Br,
+            Element::B,
+            Element::Blockquote,
+            Element::Bdo,
+            Element::Big,
+        ],
+        b'c' => &[
+            Element::Center,
+            Element::Col,
+            Element::Caption,
+            Element::Colgroup,
+            Element::Cite,
+            Element::Code,
+        ],
+        b'd' => &[
+            Element::Div,
+            Element::Dd,
+            Element::Dt,
+            Element::Dl,
+            Element::Del,
+            Element::Dfn,
+        ],
+        b'f' => &[Element::Font],
+        b'h' => &[
+            Element::H1,
+            Element::H2,
+            Element::H3,
+            Element::Hr,
+            Element::H4,
+            Element::H5,
+            Element::H6,
+        ],
+        b'i' => &[Element::Img, Element::I, Element::Ins],
+        b'l' => &[Element::Li],
+        b'p' => &[Element::P, Element::Pre],
+        b's' => &[
+            Element::Span,
+            Element::Strong,
+            Element::Small,
+            Element::S,
+            Element::Strike,
+            Element::Sub,
+            Element::Sup,
+            Element::Samp,
+        ],
+        b't' => &[
+            Element::Td,
+            Element::Tr,
+            Element::Table,
+            Element::Tbody,
+            Element::Th,
+            Element::Thead,
+            Element::Tfoot,
+            Element::Tt,
+        ],
+        b'u' => &[Element::Ul, Element::U],
+        _ => &ELEMENTS,
+    }
+}
+
 /// Returns the element of this name, if a message may have it.
-#[tactic(auto, unfolding(html_rules::specs::Tables::is_message_element, html_rules::specs::Tables::message_elements))]
 pub fn element_named(name: &WrittenName) -> Option<Element>
     ensures { MatchOption result (is_message_element name.now ≡ false) (λ e. name_of e ≡ name.now) }
 {
-    match named_in(&FREQUENT, name) {
-        Some(element) => Some(element),
-        None => named_in(&ELEMENTS, name),
-    }
+    named_in(elements_with(name.initial()), name)
 }
 
 /// Whether an element of this name is dropped with its text.

@@ -1,13 +1,18 @@
 -- A style, cut into pieces and made of declarations step by step.
-use Rattle.std.proofs.Common.{◌≡◌, ◌<◌, ◌+◌, ℕ, suc, true, false, cond, List, [], ◌∷◌, ◌++◌, length, take, drop, get_or, Option, Some, None, refl, sym, ap, ◌∙◌, arith, append_assoc, drop-cons, add-one, length-append}
+use Rattle.std.proofs.Common.{◌≡◌, ◌≤◌, ◌<◌, ◌+◌, ℕ, zero, suc, ◌||◌, unwrap_or, true, false, cond, List, [], ◌∷◌, ◌++◌, length, take, drop, get_or, Option, Some, None, refl, sym, ap, ◌∙◌, arith, append_assoc, drop-cons, add-one, length-append}
 use Rattle.std.specs.Prelude.{codes}
-use Rattle.std.specs.List.{filter_map, flat_map, onto_first, cons_option}
+use Rattle.memchr.specs.Find.{IsFirstByte, is_byte3}
+use Rattle.std.proofs.Math.Bool.{or_assoc}
+use Rattle.std.proofs.lemmas.Bool.{false_from_ne_true}
+use Rattle.std.specs.List.{slice_index, filter_map, flat_map, onto_first, cons_option}
 use Rattle.std.proofs.Math.Seq.{take-suc}
 use Rattle.std.proofs.lemmas.List.{append-nil, nil_from_length, length-drop, take_all}
-use Rattle.style_wash.specs.Cuts.{with_declaration}
+use Rattle.style_wash.specs.Cuts.{with_declaration, IsPlainBefore}
+use Rattle.style_wash.specs.Characters.{is_quote}
 use Rattle.style_wash.specs.Declarations.{Declaration, declaration_of, declarations, is_piece_end, pieces, style_of, stylewash, written}
 use Rattle.style_wash.specs.Values.{Nesting, nesting_after, written_value}
 use Rattle.style_wash.specs.Values.Nesting.{Outside}
+use Rattle.style_wash.proofs.Facts.{or_false}
 
 -- a text before the first of pieces
 abbrev pub front_onto : List ℕ → List (List ℕ) → List (List ℕ)
@@ -50,6 +55,28 @@ piece_goes_on place text end lt e =
     rw (add-one, drop-cons text end 0, take-suc text end 0)
     (ap (front_onto (take end text)) (pieces-within place c (drop (suc end) text) e)
     ∙ front_onto-onto_first (take end text) c (pieces (nesting_after false place c) (drop (suc end) text)))
+
+outside_still : (c : ℕ) → (is_piece_end Outside c || is_quote c) ≡ false → nesting_after false Outside c ≡ Outside
+outside_still c e = rw (or_false (is_piece_end Outside c) (is_quote c) e).1 refl
+
+pub plain_front : (text : List ℕ) (n : ℕ) → n ≤ length text → IsPlainBefore n text
+    → front_onto (take n text) (pieces Outside (drop n text)) ≡ pieces Outside text
+plain_front text zero le plain = front_onto-begun text
+plain_front text (suc n) le plain =
+    let c = get_or text n 0 in
+    let quiet = plain n (omega arith) in
+    rw (sym (add-one n)) (sym (piece_goes_on Outside text n (omega arith) (or_false (is_piece_end Outside c) (is_quote c) quiet).0
+    ∙ ap (λ (p : Nesting). front_onto (take (n + 1) text) (pieces p (drop (n + 1) text))) (outside_still c quiet))
+    ∙ plain_front text n (omega arith) (λ k lt. plain k (omega arith)))
+
+quiet_byte : (text : List ℕ) (k : ℕ) → (is_byte3 59 39 34 (slice_index text k) ≡ true → ⊥) → (is_piece_end Outside (slice_index text k) || is_quote (slice_index text k)) ≡ false
+quiet_byte text k none = false_from_ne_true _ (λ e. none (or_assoc (is_piece_end Outside (slice_index text k)) _ _ ∙ e))
+
+-- none of the bytes before the first `;` or quote is one
+pub plain_before : (text : List ℕ) (found : Option ℕ) (n : ℕ) → IsFirstByte (is_byte3 59 39 34) text found → n ≡ unwrap_or found (length text)
+    → (n ≤ length text) × IsPlainBefore n text
+plain_before text None n none e = rw e (omega arith, λ k lt. quiet_byte text k (none k (omega arith) lt))
+plain_before text (Some at) n first e = rw e (omega (arith, first.0.high), λ k lt. quiet_byte text k (first.0.before k (omega arith) lt))
 
 pub last_piece : (place : Nesting) (text : List ℕ) (end : ℕ) → end ≡ length text
     → front_onto (take end text) (pieces place (drop end text)) ≡ pieces Outside text → pieces Outside text ≡ text ∷ []

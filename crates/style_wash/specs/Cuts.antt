@@ -1,9 +1,9 @@
 -- The steps in which a text is cut.
-use Rattle.std.specs.Prelude.{◌≡◌, ◌≤◌, ◌<◌, ℕ, Bool, true, List, [], ◌∷◌, ◌++◌, length, take, Option, Some, None, codes}
-use Rattle.style_wash.specs.Characters.{is_separator}
+use Rattle.std.specs.Prelude.{◌≡◌, ◌≤◌, ◌<◌, ℕ, Bool, true, false, ◌||◌, List, [], ◌∷◌, ◌++◌, length, take, slice_index, Option, Some, None, codes}
+use Rattle.style_wash.specs.Characters.{is_quote, is_separator}
 use Rattle.style_wash.specs.Values.{parts, Value, written_value}
 use Rattle.style_wash.specs.Values.Nesting.{Outside}
-use Rattle.style_wash.specs.Declarations.{Declaration}
+use Rattle.style_wash.specs.Declarations.{Declaration, is_piece_end}
 
 -- a text is empty, or begins with a separator
 abbrev pub begins_gap : List ℕ → Bool
@@ -25,6 +25,10 @@ pub record IsGapAndRest (text gap rest : List ℕ) : Type 0 where
 pub record BeginsWith (front text : List ℕ) : Type 0 where
   pub bound : length front ≤ length text
   pub is : take (length front) text ≡ front
+
+-- none of the first n bytes ends a piece or begins a quote
+abbrev pub IsPlainBefore : ℕ → List ℕ → Type 0
+IsPlainBefore n text = (k : ℕ) → k < n → (is_piece_end Outside (slice_index text k) || is_quote (slice_index text k)) ≡ false
 
 -- a text with a value appended
 abbrev pub written_onto : List ℕ → Option Value → Option (List ℕ)

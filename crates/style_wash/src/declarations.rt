@@ -4,7 +4,7 @@ ghost use Rattle.std.specs.List.{list_all, position_or_len};
 ghost use Rattle.std.specs.Str.{IsAscii};
 ghost use Rattle.std.specs.String.{string_bytes};
 ghost use Rattle.style_wash.specs.Characters.{is_style_char};
-ghost use Rattle.style_wash.specs.Cuts.{property_onto, with_declaration};
+ghost use Rattle.style_wash.specs.Cuts.{property_onto, with_declaration, IsPlainBefore};
 ghost use Rattle.style_wash.specs.Declarations.{IsStyle, calls_only_rgb, declaration_of, declaration_with, is_piece_end, pieces, stylewash, value_after_colon, without_important};
 ghost use Rattle.style_wash.specs.Seen.{nesting_seen};
 ghost use Rattle.style_wash.specs.Tables.{property_of};
@@ -13,6 +13,7 @@ ghost use Rattle.style_wash.specs.Values.Nesting.{Outside};
 use crate::characters::{trim, trim_back};
 use crate::tables::property;
 use crate::values::{Nesting, nesting_after, push_value};
+use memchr::memchr3;
 use std::alloc::{AllocError as Memory, Global};
 
 /// Returns the declarations of an inline style that a page may have, in their order, with `; ` between each two; the result is empty if
@@ -27,7 +28,8 @@ pub fn wash_style(alloc: Global, text: &str) -> Result<String, Memory>
     ensures characters { IfOk result (λ style. IsTrue (list_all is_style_char (string_bytes style))) }
     ensures functions { IfOk result (λ style. IsTrue (calls_only_rgb [] (string_bytes style))) }
 {
-    let mut style = Vec::new(alloc);
+    // A washed style is rarely longer than its text.
+    let mut style = Vec::with_capacity(alloc, text.len())?;
     let mut rest = text.as_bytes();
     while let Some((piece, after)) = split_piece(rest) {
         push_declaration(piece, &mut style)?;
@@ -54,7 +56,7 @@ fn split_piece(text: &[u8]) -> Option<(&[u8], &[u8])>
         (λ cut. (pieces Outside text.now ≡ cut.0.now ∷ pieces Outside cut.1.now) × (length cut.1.now < length text.now)) }
 {
     let mut place = Nesting::Outside;
-    let mut end = 0;
+    let mut end = plain_len(text);
     while end < text.len() && !is_piece_end(place, text[end]) {
         place = nesting_after(false, place, text[end]);
         end += 1;
@@ -63,6 +65,14 @@ fn split_piece(text: &[u8]) -> Option<(&[u8], &[u8])>
         return None;
     }
     Some((&text[..end], &text[end + 1..]))
+}
+
+// The length of the prefix before the first `;` or quote.
+fn plain_len(text: &[u8]) -> usize
+    ensures within { result ≤ length text.now }
+    ensures plain { IsPlainBefore result text.now }
+{
+    memchr3(b';', b'\'', b'"', text).unwrap_or(text.len())
 }
 
 fn is_piece_end(place: Nesting, c: u8) -> bool

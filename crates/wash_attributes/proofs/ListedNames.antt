@@ -1,9 +1,13 @@
 -- What the tables say of the names of listed attributes.
-use Rattle.std.proofs.Common.{◌≡◌, Bool, true, false, not, ◌&&◌, ◌||◌, List, [], ◌∷◌, codes, refl}
+use Rattle.std.proofs.Common.{◌≡◌, Bool, true, false, not, ◌&&◌, ◌||◌, List, [], ◌∷◌, codes, refl, ap, ◌∙◌, ℕ, Some}
 use Rattle.std.specs.List.{list_all, list_any}
 use Rattle.html_syntax.specs.Tokenizer.{is_among, same}
 use Rattle.html_rules.specs.Tables.{Name, AttributeRow, common_attributes, attribute_rows, is_listed_attribute, is_attribute_name, link_attributes, frame_attributes}
+use Rattle.std.specs.Str.{bytes_eq}
+use Rattle.html_rules.specs.Tables.{kind_of}
+use Rattle.html_rules.specs.declared.ValueKind.{ValueKind}
 use Rattle.html_rules.proofs.Facts.{and_true, among_all}
+use Rattle.style_wash.proofs.Facts.{bytes_eq-true}
 
 pub or_true : (a b : Bool) (P : Type 0) → (a || b) ≡ true → (a ≡ true → P) → (b ≡ true → P) → P
 or_true true b P h f g = f refl
@@ -30,3 +34,7 @@ listed_name element name h =
     or_true (is_among common_attributes name) (list_any (is_in_row element name) attribute_rows) (is_plain_name name ≡ true) h
     (λ e. among_all is_plain_name common_attributes name refl e)
     (λ e. rows_all is_plain_name attribute_rows element name refl e)
+
+-- a name has the kind of the word that it is
+pub kind_by_name : (name word : List ℕ) (kind : ValueKind) → bytes_eq name word ≡ true → kind_of word ≡ Some kind → kind_of name ≡ Some kind
+kind_by_name name word kind e is = ap kind_of (bytes_eq-true name word e) ∙ is

@@ -1,10 +1,11 @@
 -- The tables of the code, and what is found in them.
-use Rattle.std.specs.Prelude.{◌≡◌, ℕ, Bool, true, false, List, [], ◌∷◌, if◌then◌else◌, map, Option, MatchOption}
+use Rattle.std.specs.Prelude.{◌≡◌, ℕ, Bool, true, false, List, [], ◌∷◌, if◌then◌else◌, map, Option, Some, None, MatchOption}
 use Rattle.std.specs.List.{list_all}
 use Rattle.std.specs.Borrow.{Bor}
 use Rattle.html_syntax.specs.Tokenizer.{is_among}
 use Rattle.html_tokens.specs.Tags.{is_word_char}
-use Rattle.html_rules.specs.Tables.{Name, AttributeRow, ValueKindRow}
+use Rattle.html_rules.specs.Tables.{Name, AttributeRow, ValueKindRow, kind_of}
+use Rattle.html_rules.specs.declared.ValueKind.{ValueKind}
 use Rattle.wash_attributes.specs.declared.names.AttributeRow as attribute_row
 use Rattle.wash_attributes.specs.declared.names.KindRow as kind_row
 
@@ -30,3 +31,8 @@ attributes_in (row ∷ rows) element = if is_among row.elements element then row
 -- the name itself if it is among the names, or else none
 abbrev pub FindsName : List Name → Name → Option (Bor (List ℕ)) → Type 0
 FindsName names name found = MatchOption found (is_among names name ≡ false) (λ word. (is_among names name ≡ true) × (word.now ≡ name))
+
+-- the kind of the attribute's values, or none
+abbrev pub IsFrequentKind : Name → Option ValueKind → Type 0
+IsFrequentKind name None = Unit {0}
+IsFrequentKind name (Some kind) = kind_of name ≡ Some kind

@@ -1,7 +1,8 @@
 //! The attributes of a start tag.
-ghost use Rattle.std.specs.Prelude.{◌≡◌, ◌++◌, [], ◌∷◌, true, false, chars, IfOk, OnOk, IsTrue};
+ghost use Rattle.std.specs.Prelude.{◌≡◌, ◌++◌, [], ◌∷◌, true, false, chars, map, string_bytes, IfOk, OnOk, IsTrue};
 ghost use Rattle.std.specs.List.{list_all};
 ghost use Rattle.html_syntax.specs.Tokenizer.{has_name};
+ghost use Rattle.html_syntax.specs.Token.{attribute_of};
 ghost use Rattle.html_tokens.specs.Tags.{is_word_char};
 ghost use Rattle.html_rules.specs.Tables.{common_attributes, kind_of};
 ghost use Rattle.wash_attributes.specs.Attributes.{attribute_with, written_value_of_kind, kept_attributes, link_protection, protect_link, washed_attributes};
@@ -28,39 +29,55 @@ pub struct Washing<'r, 't, 'a, 'p> {
     pub images: bool,
 }
 
-/// The attributes that are kept so far, and the listed names that were read.
+/// The attributes that are kept so far, as names and values, and the listed names that were read.
 #[derive(Drop)]
 struct Kept {
-    attributes: Attributes,
+    pairs: Vec<(String, String)>,
     names: Vec<&'static str>,
 }
 
 impl Model for Kept {
+    ghost use Rattle.std.specs.Prelude.{map};
+    ghost use Rattle.html_syntax.specs.Token.{attribute_of};
     ghost use Rattle.wash_attributes.specs.Keeping.{KeptValue};
     ghost use Rattle.wash_attributes.specs.Listed.{texts_seen};
 
     ghost Value = { KeptValue };
 
-    ghost view = { λ k. record { attributes = k.attributes; names = texts_seen k.names.items } };
+    ghost view = { λ k. record { attributes = map attribute_of k.pairs.items; names = texts_seen k.names.items } };
+}
+
+/// Adds an attribute.
+fn push_pair(
+    alloc: Global,
+    kept: &mut Vec<(String, String)>,
+    name: &str,
+    value: String,
+) -> Result<(), Memory>
+    ensures { OnOk result (map attribute_of kept.new.items ≡ map attribute_of kept.old.items ++ record { name = chars name.now; value = chars (string_bytes value) } ∷ []) }
+{
+    let name = String::from_str(alloc, name)?;
+    kept.push((name, value))?;
+    Ok(())
 }
 
 /// Adds an attribute if its value is of its kind.
 fn push_attribute(
     alloc: Global,
-    kept: &mut Attributes,
+    kept: &mut Vec<(String, String)>,
     name: &'static str,
     attribute: &WrittenAttribute<'_>,
     with: &Washing<'_, '_, '_, '_>,
 ) -> Result<(), Memory>
     requires { list_all is_word_char name.now ≡ true }
-    ensures { OnOk result (kept.new ≡ kept.old ++ to_list (attribute_with name.now (written_value_of_kind (given_of with.now.references.now with.now.place.now with.now.images) (kind_of name.now) attribute.now.value))) }
+    ensures { OnOk result (map attribute_of kept.new.items ≡ map attribute_of kept.old.items ++ to_list (attribute_with name.now (written_value_of_kind (given_of with.now.references.now with.now.place.now with.now.images) (kind_of name.now) attribute.now.value))) }
 {
     let Some(kind) = kind_of(name) else {
         return Ok(());
     };
     let value = attribute.value(alloc)?;
     match written_value(alloc, kind, value.as_str(), with)? {
-        Some(written) => kept.push(alloc, name, written.as_str()),
+        Some(written) => push_pair(alloc, kept, name, written),
         None => Ok(()),
     }
 }
@@ -71,7 +88,7 @@ impl Kept {
         ensures names { result.names ≡ [] }
     {
         Kept {
-            attributes: Attributes::new(alloc),
+            pairs: Vec::new(alloc),
             names: Vec::new(alloc),
         }
     }
@@ -89,7 +106,7 @@ impl Kept {
         ensures { OnOk result (self.new ≡ with_attribute (given_of with.now.references.now with.now.place.now with.now.images) self.old attribute.now) }
     {
         self.names.push(name)?;
-        push_attribute(alloc, &mut self.attributes, name, attribute, with)
+        push_attribute(alloc, &mut self.pairs, name, attribute, with)
     }
 
     /// Reads the next attribute of a tag.
@@ -175,7 +192,8 @@ pub fn wash_attributes(
         place,
         images,
     };
-    let Kept { mut attributes, .. } = read_attributes(alloc, own_attributes(element), tag, &with)?;
+    let Kept { pairs, .. } = read_attributes(alloc, own_attributes(element), tag, &with)?;
+    let mut attributes = Attributes::from_pairs(pairs);
     protect(alloc, &mut attributes)?;
     Ok(attributes)
 }

@@ -4,7 +4,7 @@ ghost use Rattle.std.specs.List.{list_all};
 ghost use Rattle.html_tokens.specs.Tags.{is_word_char};
 ghost use Rattle.html_syntax.specs.Tokenizer.{same, is_among};
 ghost use Rattle.html_rules.specs.Tables.{common_attributes, is_listed_attribute, kind_among, kind_of};
-ghost use Rattle.wash_attributes.specs.Listed.{texts_seen, row_seen, kind_row_seen, are_words, attributes_in, FindsName};
+ghost use Rattle.wash_attributes.specs.Listed.{texts_seen, row_seen, kind_row_seen, are_words, attributes_in, FindsName, IsFrequentKind};
 
 use html_rules::ValueKind;
 use html_tokens::WrittenName;
@@ -231,10 +231,29 @@ fn kind_in(rows: &[KindRow], name: &str) -> Option<ValueKind>
     None
 }
 
+/// The kind of the attributes that most messages have. The others are looked up.
+fn frequent_kind(name: &str) -> Option<ValueKind>
+    ensures { IsFrequentKind name.now result }
+{
+    if name == "style" {
+        return Some(ValueKind::Style);
+    }
+    if name == "href" {
+        return Some(ValueKind::Link);
+    }
+    if name == "src" {
+        return Some(ValueKind::Source);
+    }
+    None
+}
+
 /// The kind of an attribute's values.
 #[tactic(auto, unfolding(html_rules::specs::Tables::kind_of, html_rules::specs::Tables::value_kind_rows))]
 pub fn kind_of(name: &str) -> Option<ValueKind>
     ensures { result ≡ kind_of name.now }
 {
-    kind_in(&KINDS, name)
+    match frequent_kind(name) {
+        Some(kind) => Some(kind),
+        None => kind_in(&KINDS, name),
+    }
 }

@@ -10,7 +10,8 @@ returns c =
     let bytes = c.args.stretch.now in
     let plain = c.plain_len-plain.ensures in
     let whole : n - 0 ≡ n = omega arith in
-    let front : string_bytes c.in_ok-text.text ≡ take n bytes = c.in_ok-text.ensures.ok ∙ c.range.ensures.value ∙ ap (λ (k : ℕ). take k bytes) whole in
+    let front : string_bytes c.push_str.new.self ≡ take n bytes =
+    c.in_ok-push_str.ensures.bytes ∙ ap (λ (l : List ℕ). l ++ c.range.result.now) c.in_ok-text.ensures.bytes ∙ c.range.ensures.value ∙ ap (λ (k : ℕ). take k bytes) whole in
     elim c.if-plain-stretch.branch [
       | then-plain-stretch+in_ok-push_stretch w ↦
           rw w.text-is (

@@ -3,12 +3,12 @@ use Rattle.std.proofs.lemmas.List.{take_rest, length-drop}
 use Rattle.style_wash.specs.Declarations.{is_piece_end, pieces}
 use Rattle.style_wash.specs.Seen.{nesting_seen}
 use Rattle.style_wash.specs.Values.{Nesting}
-use Rattle.style_wash.proofs.Pieces.{front_onto, front_onto-begun, piece_goes_on, last_piece, first_piece}
+use Rattle.style_wash.proofs.Pieces.{front_onto, plain_front, piece_goes_on, last_piece, first_piece}
 use Rattle.style_wash.proofs.declarations.split_piece.Goals as goal
 use Rattle.style_wash.proofs.declarations.split_piece.Goals.{then-loop-end-test+else-not-is_piece_end, else-loop-end-test}
 
 pub loop-end-init : goal.loop-end-init
-loop-end-init c = record { cut = front_onto-begun c.args.text.now; within = omega arith }
+loop-end-init c = record { cut = plain_front c.args.text.now c.plain_len-end.result c.plain_len-end.ensures.within c.plain_len-end.ensures.plain; within = c.plain_len-end.ensures.within }
 
 pub loop-end-preserved : goal.loop-end-preserved
 loop-end-preserved c =

@@ -9,7 +9,7 @@ use Rattle.style_wash.proofs.Styles.{IsAscii-stylewash, washed_calls_only_rgb, w
 use Rattle.style_wash.proofs.declarations.wash_style.Goals as goal
 
 pub loop-piece-init : goal.loop-piece-init
-loop-piece-init c = rw (c.new-style.ensures.items, c.as_bytes-rest.ensures.value) (washed_begins c.args.text.now)
+loop-piece-init c = rw (c.in_ok-style.ensures.items, c.as_bytes-rest.ensures.value) (washed_begins c.args.text.now)
 
 -- what is written in the end
 whole : (style rest written text : List ℕ) → pieces Outside rest ≡ rest ∷ [] → written ≡ with_declaration style (declaration_of rest)

@@ -1,6 +1,6 @@
-use Rattle.std.proofs.Common.{◌≡◌, ◌++◌, Some, List, chars, sym, ap, subst, ◌∙◌}
+use Rattle.std.proofs.Common.{◌≡◌, ◌++◌, List, chars, map, sym, ap, subst, ◌∙◌}
 use Rattle.std.specs.Prelude.{OnOk}
-use Rattle.html_syntax.specs.Token.{Attribute}
+use Rattle.html_syntax.specs.Token.{Attribute, attribute_of}
 use Rattle.wash_attributes.specs.Values.{written_value}
 use Rattle.wash_attributes.specs.Addresses.{given_of}
 use Rattle.wash_attributes.specs.Written.{text_in}
@@ -17,6 +17,5 @@ returns-in-Some-2 c =
     let read = ap chars c.as_str.ensures.value ∙ c.in_ok-value.ensures in
     let kind = sym c.kind_of.ensures ∙ c.in-Some.is in
     let written = ap text_in (sym c.in-Some-2.is) ∙ c.in_ok-written.ensures ∙ ap (written_value given c.in-Some.kind) read in
-    let same_text = ap chars c.as_str-in-Some-2.ensures.value in
-    let one = written_attribute given name value _ c.in-Some.kind kind (ap Some same_text ∙ written) (word_chars_same name c.requires) in
-    subst (λ (more : List Attribute). OnOk c.push.result (c.push.new.self ≡ c.args.kept.now ++ more)) (sym one) c.push.ensures.appended
+    let one = written_attribute given name value _ c.in-Some.kind kind written (word_chars_same name c.requires) in
+    subst (λ (more : List Attribute). OnOk c.push_pair.result (map attribute_of c.push_pair.new.kept.items ≡ map attribute_of c.args.kept.now.items ++ more)) (sym one) c.push_pair.ensures

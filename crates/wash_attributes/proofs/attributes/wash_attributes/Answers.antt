@@ -12,7 +12,7 @@ unfolding washed_attributes
 returns c =
     let given = given_of c.args.references.now c.args.place.now c.args.images in
     let listed = common_attributes ++ texts_seen c.own_attributes.result.now in
-    record { equals = c.in_ok-protect.ensures ∙ ap protect_link (ap (λ (k : KeptValue). k.attributes) c.attributes.view_is ∙ c.in_ok-attributes.ensures ∙ all_kept given listed c.args.element.now c.args.tag.now.attributes c.own_attributes.ensures.listed) }
+    record { equals = c.in_ok-protect.ensures ∙ ap protect_link (c.from_pairs-attributes.ensures ∙ ap (λ (k : KeptValue). k.attributes) c.pairs.view_is ∙ c.in_ok-pairs.ensures ∙ all_kept given listed c.args.element.now c.args.tag.now.attributes c.own_attributes.ensures.listed) }
 
 pub returns-then-not-has_attributes : goal.returns-then-not-has_attributes
 returns-then-not-has_attributes c =

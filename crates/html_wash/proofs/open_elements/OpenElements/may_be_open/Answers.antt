@@ -1,4 +1,4 @@
-use Rattle.std.proofs.Common.{◌≡◌, false, sym, ap, ◌∙◌, slice_index_or}
+use Rattle.std.proofs.Common.{false, sym, ap, ◌∙◌, slice_index_or}
 use Rattle.html_wash.proofs.OpenFlags.{not_flagged}
 use Rattle.html_wash.proofs.open_elements.OpenElements.may_be_open.Goals as goal
 

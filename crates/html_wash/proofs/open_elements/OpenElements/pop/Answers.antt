@@ -1,7 +1,6 @@
-use Rattle.std.proofs.Common.{◌≡◌, false, map, sym, ap, ◌∙◌, slice_set}
+use Rattle.std.proofs.Common.{false, map, sym, ap, ◌∙◌, slice_set}
 use Rattle.html_syntax.specs.Tokenizer.{is_among}
 use Rattle.html_wash.specs.Elements.{name_of}
-use Rattle.html_wash.specs.declared.element.Element.{Element}
 use Rattle.html_wash.proofs.OpenFlags.{one_less, one_gone}
 use Rattle.html_wash.proofs.open_elements.OpenElements.pop.Goals as goal
 
