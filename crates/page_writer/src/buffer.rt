@@ -11,12 +11,16 @@ ghost use Rattle.std.specs.List.{concat};
 
 use crate::{Memory, spelling};
 use html_syntax::Attributes;
-use std::alloc::Global;
+use std::alloc::{AllocError, Global};
 use std::marker::Model;
 use std::mem;
 
 /// Length in bytes from which a text is kept as it is.
 const LONG: usize = 65_536;
+
+/// The most bytes of start tags. The start tags of a message of the largest size have fewer, unless its addresses are relative to a
+/// long base.
+const START_TAGS_LIMIT: usize = 268_435_456;
 
 /// Markup, and a text after it that isn't spelled yet. It is seen as the bytes that both are on the page.
 #[derive(Drop)]
@@ -55,6 +59,8 @@ pub struct PageBytes {
     alloc: Global,
     segments: Vec<Segment>,
     tail: Vec<u8>,
+    /// How many bytes of start tags there is room for.
+    room: usize,
 }
 
 impl Model for PageBytes {
@@ -74,6 +80,7 @@ impl PageBytes {
             alloc,
             segments: Vec::new(alloc),
             tail: Vec::new(alloc),
+            room: START_TAGS_LIMIT,
         }
     }
 
@@ -105,11 +112,18 @@ impl PageBytes {
         Ok(())
     }
 
+    /// Appends a start tag. Start tags beyond their limit are answered as want of memory.
     pub fn add_start(&mut self, name: &str, attributes: &Attributes) -> Result<(), Memory>
         ensures items { self.new ≡ (if is_ok result then self.old ++ encode_utf8_all (spell_token (Start (chars name.now) attributes.now)) else self.old) }
         ensures texts { OnOk result (AreTexts attributes.now) }
     {
-        spelling::add_start(&mut self.tail, name, attributes)
+        if self.room == 0 {
+            return Err(AllocError);
+        }
+        let before = self.tail.len();
+        let written = spelling::add_start(&mut self.tail, name, attributes);
+        self.room = self.room.saturating_sub(self.tail.len().saturating_sub(before));
+        written
     }
 
     pub fn add_end(&mut self, name: &str) -> Result<(), Memory>
