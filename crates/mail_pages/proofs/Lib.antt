@@ -1,5 +1,7 @@
 pub mod LineFeeds
 pub mod Gathering
+pub mod Quotes
+pub mod QuoteSteps
 pub mod Safe
 pub mod Washed
 pub mod Examples
