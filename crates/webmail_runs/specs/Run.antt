@@ -58,7 +58,7 @@ pub record IsBegun (taken_old taken_new : Option (List ℕ)) (message : List ℕ
 
 -- if the source tells what it holds, no part of a message longer than the limit is shown
 abbrev pub RefusesLong : ℕ → Option (List ℕ) → ℕ → Type 0
-RefusesLong limit left status = IfSome left (λ message. limit < length message → (status ≢ 0) × (status ≢ 4) × (status ≢ 7) × (status ≢ 8))
+RefusesLong limit left status = IfSome left (λ message. limit < length message → (status ≢ 0) × (status ≢ 4) × (status ≢ 8))
 
 -- the line of a status
 unfoldable pub status_text : ℕ → List ℕ

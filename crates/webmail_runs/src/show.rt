@@ -3,12 +3,11 @@ ghost use Rattle.std.specs.Prelude.{◌≡◌, ◌≢◌, ◌⊎◌, map, string
 ghost use Rattle.std.specs.Io.KnownBytes.{Keeps, Appends};
 ghost use Rattle.mail_io.specs.Causes.{Rose};
 ghost use Rattle.mail_io.specs.Stream.{ReadsPast, ReadsSome, WritesSome};
-ghost use Rattle.mail_pages.specs.ShowPage.{page_bytes, IsSafe, IsShown, IsUnbuilt, IsMissing};
+ghost use Rattle.mail_pages.specs.ShowPage.{page_bytes, IsSafe, IsShown, IsMissing};
 ghost use Rattle.webmail_runs.specs.Run.{RequestsNothing, ReadsRequest, IsWritten, IsBegun, RefusesLong};
 
 use crate::status::{
-    DONE, NO_SUCH_PART, NOT_BUILT, OUT_OF_MEMORY, READ_FAULT, Status, TOO_LONG, WRITE_FAULT,
-    WRONG_WORDS,
+    DONE, NO_SUCH_PART, OUT_OF_MEMORY, READ_FAULT, Status, TOO_LONG, WRITE_FAULT, WRONG_WORDS,
 };
 use crate::words::parse_words;
 use mail_io::{InputFault, Sink, Source, read_to_end};
@@ -20,8 +19,8 @@ pub const LIMIT: usize = 26_214_400;
 
 /// Reads a message to its end, and writes its page.
 ///
-/// `words` are those after the program's name: `show`, and in either order `--images` and `--part SECTION`. Wrong words are refused before anything is read, and a message that has no page
-/// before anything is written.
+/// `words` are those after the program's name: `show`, and in either order `--images` and `--part SECTION`. Wrong words are refused
+/// before anything is read, and a message that has no page before anything is written.
 pub fn run_show<R: Source, W: Sink>(
     alloc: Global,
     words: &[String],
@@ -36,7 +35,6 @@ pub fn run_show<R: Source, W: Sink>(
     ensures writes_safe_page { result ≡ DONE → ReadsRequest (map string_bytes words.now) LIMIT (R.left source.old) (R.left source.new) (IsWritten (W.taken sink.old) (W.taken sink.new)) }
     ensures writes_prefix { result ≡ WRITE_FAULT → ReadsRequest (map string_bytes words.now) LIMIT (R.left source.old) (R.left source.new) (IsBegun (W.taken sink.old) (W.taken sink.new)) }
 
-    ensures only_if_unbuilt { result ≡ NOT_BUILT → ReadsRequest (map string_bytes words.now) LIMIT (R.left source.old) (R.left source.new) (λ message part images. IsUnbuilt message part) }
     ensures only_if_missing { result ≡ NO_SUCH_PART → ReadsRequest (map string_bytes words.now) LIMIT (R.left source.old) (R.left source.new) (λ message part images. IsMissing message part) }
     ensures only_if_long { result ≡ TOO_LONG → ReadsPast LIMIT (R.left source.old) (R.left source.new) }
     ensures refuses_every_long { RefusesLong LIMIT (R.left source.old) result }
@@ -47,7 +45,7 @@ pub fn run_show<R: Source, W: Sink>(
     ensures keeps_write_faults { result ≢ WRITE_FAULT → W.faults sink.new ≡ W.faults sink.old }
     ensures writes_nothing_else { result ≢ DONE → result ≢ WRITE_FAULT → Keeps (W.taken sink.old) (W.taken sink.new) }
     ensures is_listed { (result ≡ DONE) ⊎ (result ≡ WRONG_WORDS) ⊎ (result ≡ READ_FAULT) ⊎ (result ≡ WRITE_FAULT)
-        ⊎ (result ≡ OUT_OF_MEMORY) ⊎ (result ≡ TOO_LONG) ⊎ (result ≡ NOT_BUILT) ⊎ (result ≡ NO_SUCH_PART) }
+        ⊎ (result ≡ OUT_OF_MEMORY) ⊎ (result ≡ TOO_LONG) ⊎ (result ≡ NO_SUCH_PART) }
 {
     let Some(request) = parse_words(words) else {
         return WRONG_WORDS;
@@ -72,16 +70,14 @@ fn show<W: Sink>(
     ensures writes_page { result ≡ DONE → Appends (W.taken sink.old) (W.taken sink.new) (page_bytes message.now part.now images) }
     ensures is_safe { result ≡ DONE → IsSafe message.now part.now images }
     ensures writes_prefix { result ≡ WRITE_FAULT → IsBegun (W.taken sink.old) (W.taken sink.new) message.now part.now images }
-    ensures only_if_unbuilt { result ≡ NOT_BUILT → IsUnbuilt message.now part.now }
     ensures only_if_missing { result ≡ NO_SUCH_PART → IsMissing message.now part.now }
     ensures write_fault_has_cause { result ≡ WRITE_FAULT → Rose (W.faults sink.old) (W.faults sink.new) }
     ensures keeps_write_faults { result ≢ WRITE_FAULT → W.faults sink.new ≡ W.faults sink.old }
     ensures writes_nothing_else { result ≢ DONE → result ≢ WRITE_FAULT → Keeps (W.taken sink.old) (W.taken sink.new) }
-    ensures is_listed { (result ≡ DONE) ⊎ (result ≡ WRITE_FAULT) ⊎ (result ≡ OUT_OF_MEMORY) ⊎ (result ≡ NOT_BUILT) ⊎ (result ≡ NO_SUCH_PART) }
+    ensures is_listed { (result ≡ DONE) ⊎ (result ≡ WRITE_FAULT) ⊎ (result ≡ OUT_OF_MEMORY) ⊎ (result ≡ NO_SUCH_PART) }
 {
     let page = match show_page(alloc, message, part, images) {
         Ok(page) => page,
-        Err(PageFault::NotBuilt) => return NOT_BUILT,
         Err(PageFault::NoSuchPart) => return NO_SUCH_PART,
         Err(PageFault::Memory) => return OUT_OF_MEMORY,
     };

@@ -22,7 +22,7 @@ pub const OUT_OF_MEMORY: Status = 5;
 /// The message is longer than the limit.
 pub const TOO_LONG: Status = 6;
 
-/// The part is of a kind that isn't shown yet.
+/// What was requested isn't built. No run ends so today.
 pub const NOT_BUILT: Status = 7;
 
 /// The message has no text of that section.
