@@ -5,3 +5,4 @@ pub mod QuoteSteps
 pub mod Safe
 pub mod Washed
 pub mod Examples
+pub mod MailExamples
