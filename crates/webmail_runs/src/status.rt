@@ -1,6 +1,6 @@
 //! The statuses of the program.
 ghost use Rattle.std.specs.Prelude.{◌≡◌};
-ghost use Rattle.webmail_runs.specs.Run.{status_text};
+ghost use Rattle.webmail_runs.specs.Outcomes.{status_text};
 
 /// The exit status of the process.
 pub type Status = u8;
@@ -29,7 +29,7 @@ pub const NOT_BUILT: Status = 7;
 pub const NO_SUCH_PART: Status = 8;
 
 /// The line that is written to standard error at a status: none at success, and none at an unknown status.
-#[tactic(auto, unfolding(crate::specs::Run::status_text))]
+#[tactic(auto, unfolding(crate::specs::Outcomes::status_text, crate::specs::Outcomes::line_among))]
 pub fn status_line(status: Status) -> &'static str
     ensures { result.now ≡ status_text status }
 {
