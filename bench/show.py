@@ -1,6 +1,8 @@
 #!/usr/bin/env python3
-"""Times `webmail show` on messages of 2.6 and 26 MB, plain and hostile, beside Python's own decode, escape and encode,
-and one of a large attachment beside `base64 -d`.
+"""Times `webmail show` on messages of 2.6 and 26 MB, plain, HTML, flowed and hostile, beside Python's own decode, escape and encode,
+on one of a large attachment beside `base64 -d`, and on the example newsletter.
+
+    bench/show.py [WORD]      only the shapes whose names contain the word
 
 Run by hand after `tools/build webmail`. Prints processor seconds (user and system), peak memory for each byte read, and the
 ratios that have bounds. Exits with 1 if one is above its bound.
@@ -16,11 +18,31 @@ ATTACHED = 20_000_000
 GROWTH = 25
 HEAD = b"Subject: bench\r\n\r\n"
 NESTED = "".join(f"Content-Type: multipart/mixed; boundary=b{i}\n\n--b{i}\n" for i in range(33)).encode() + b"\n"
+HTML = b"Subject: bench\r\nContent-Type: text/html; charset=utf-8\r\n\r\n"
+FLOWED = b"Subject: bench\r\nContent-Type: text/plain; charset=utf-8; format=flowed\r\n\r\n"
+NEWSLETTER = os.path.join(TOP, "examples", "newsletter.eml")
+PARAGRAPH = (
+    b'<h2 style="color:#264653;margin:12px 0 4px">Week</h2>\r\n<p class="x" style="color:#333;margin:0 0 10px">From Monday on the '
+    b'<b>chapel caf\xc3\xa9</b> is open until nine.\r\nSoup is at six &amp; music at seven.</p>\r\n<ul><li>Monday: leek soup</li>'
+    b'<li>Tuesday: <i>closed</i></li></ul>\r\n<p><a href="https://college.example/cafe">The whole week</a></p>\r\n'
+    b'<img src="https://tracker.example/open?who=ann" width=1 height=1>\r\n'
+)
+QUOTES = (
+    b"> The quick brown fox jumps over the lazy dog, and over the dog again it \r\n> jumps.\r\n>> Did it jump? It did, and it did so for the second time on that very \r\n"
+    b">> morning.\r\n>\r\n> It did.\r\nSo it goes on.\r\n\r\n"
+)
 TEXT = b"The quick brown fox jumps over the lazy dog, and over the dog again it jumps\r\n"
 
 # for each shape: what stands before, the line that is repeated, and what stands after
 SHAPES = {
     "plain text": (HEAD, TEXT, b""),
+    "HTML mail": (HTML, PARAGRAPH, b""),
+    "flowed quotes": (FLOWED, QUOTES, b""),
+    "flowed: one paragraph": (FLOWED, b"The quick brown fox jumps over the lazy dog, and over the dog again it \r\n", b""),
+    "flowed: marks alone": (FLOWED, b">", b""),
+    "flowed: empty lines": (FLOWED, b"\n", b""),
+    "flowed: empty quoted lines": (FLOWED, b">\n", b""),
+    "flowed: depths up and down": (FLOWED, b">" * 16 + b"\n\n", b""),
     "less-than signs": (HEAD, b"<", b""),
     "header lines": (b"", b"X-Field: of a header\r\n", b"\r\n"),
     "short header lines": (b"", b"a:b\n", b"\n"),
@@ -41,6 +63,10 @@ SHAPES = {
     "nested boundaries, two hyphens": (NESTED, b"--\n", b""),
     "nested boundaries, short lines": (NESTED, b"123456789\n", b""),
 }
+
+# Markup around each of many short paragraphs makes a page this many times as long as its message, and it is kept whole: bounds on
+# its memory are twice that.
+LONG_PAGES = {"flowed: empty lines": 2 * 15, "flowed: empty quoted lines": 2 * 7.5, "flowed: depths up and down": 2 * 24}
 
 
 def write(path, shape, size):
@@ -92,12 +118,13 @@ PYTHON = (
 def main():
     if not os.path.exists(PROGRAM):
         sys.exit("build the program first: tools/build webmail")
+    wanted = {name: shape for name, shape in SHAPES.items() if len(sys.argv) < 2 or sys.argv[1] in name or name == "plain text"}
     failed = []
     with tempfile.TemporaryDirectory() as folder:
         seconds = {}
         base = measure([sys.executable, "-c", "pass"], os.devnull)[0]
         for size in (SMALL, LARGE):
-            for name in SHAPES:
+            for name in wanted:
                 path = os.path.join(folder, "message")
                 write(path, name, size)
                 own, peak = measure([PROGRAM, "show"], path)
@@ -112,19 +139,22 @@ def main():
         own, peak = measure([PROGRAM, "show"], path)
         decoding, _ = measure(["base64", "-d"], attachment)
         print(f"{'an attachment of 20 MB':31} {own:7.3f} s  base64 {decoding:7.3f} s  {own / decoding:5.2f}  {peak * 1024 / ATTACHED:6.2f} bytes a byte")
+        own, newsletter_peak = measure([PROGRAM, "show"], NEWSLETTER)
+        print(f"{'the newsletter':31} {own:7.3f} s  {newsletter_peak:8} kilobytes")
         bounds = [
             ("an attachment beside base64 -d", own / decoding, 3),
             ("an attachment: memory", peak * 1024 / ATTACHED, 3),
             ("plain text beside Python", seconds["plain text", LARGE] / seconds["plain text", "python"], 2),
-            ("less-than signs beside Python", seconds["less-than signs", LARGE] / seconds["less-than signs", "python"], 1),
         ]
-        for name in ("header lines", "short header lines", "lines that are no field", "one folded field"):
+        if "less-than signs" in wanted:
+            bounds.append(("less-than signs beside Python", seconds["less-than signs", LARGE] / seconds["less-than signs", "python"], 1))
+        for name in {"header lines", "short header lines", "lines that are no field", "one folded field"}.intersection(wanted):
             bounds.append((f"{name} beside plain text", seconds[name, LARGE] / seconds["plain text", LARGE], 3))
-        for name in SHAPES:
+        for name in wanted:
             if name.startswith("nested"):
                 bounds.append((f"{name} beside plain text", seconds[name, LARGE] / seconds["plain text", LARGE], 5))
             bounds.append((f"{name}: growth of time", seconds[name, LARGE] / max(seconds[name, SMALL], 0.001), GROWTH))
-            bounds.append((f"{name}: memory", seconds[name, "peak"], 6))
+            bounds.append((f"{name}: memory", seconds[name, "peak"], LONG_PAGES.get(name, 6)))
         for name, got, most in bounds:
             mark = "" if got <= most else "   PAST THE BOUND"
             print(f"{name:45} {got:6.2f} of {most}{mark}")

@@ -1,8 +1,8 @@
 -- Lines join_lines one after another.
-use Rattle.std.proofs.Common.{◌≡◌, ◌≢◌, ℕ, ◌+◌, ◌-◌, ◌<◌, ◌≤◌, inl, inr, Bool, true, false, ◌&&◌, List, [], ◌∷◌, ◌++◌, length, take, Result, Ok, Err, not, refl, sym, ap, subst, ◌∙◌, arith, append_assoc, length-append}
+use Rattle.std.proofs.Common.{◌≡◌, ◌≢◌, ℕ, ◌+◌, ◌-◌, ◌<◌, ◌≤◌, inl, inr, Bool, true, false, ◌&&◌, List, [], ◌∷◌, ◌++◌, length, take, not, refl, sym, ap, subst, ◌∙◌, arith, append_assoc, length-append}
 use Rattle.std.proofs.lemmas.Bool.{and_parts, cases_Bool, eq-eqb, ne_eqb, false≢true}
 use Rattle.std.proofs.Math.Seq.{take-append-add}
-use Rattle.std.specs.Prelude.{map, min, IfOk, string_bytes}
+use Rattle.std.specs.Prelude.{map, min, string_bytes}
 use Rattle.std.specs.Str.{bytes_eq}
 use Rattle.flowed_text.specs.declared.reading.OpenPara.{OpenPara}
 use Rattle.flowed_text.specs.Reading.{continue_para, continue_open_para, para_of}
@@ -51,36 +51,44 @@ continue_para-join_lines del_sp depth front line more same =
     subst (λ d. continue_para del_sp true (record { depth = d; text = front }) (line ∷ more) ≡ continue_para del_sp (is_flowing line.text) (record { depth = d; text = joinable_text del_sp front ++ line.text }) more)
     same (continue_para-at del_sp front line more)
 
-pub joined_more : {E : Type 0} (r : Result OpenPara E) (items : List Para) (del_sp : Bool) (begun : OpenPara) (depth : ℕ) (text : List ℕ) (line : Para) → begun.flowing ≡ true → depth ≡ begun.depth → depth ≡ line.depth → text ≡ line.text
-    → IfOk r (λ next. para_of next ≡ record { depth = begun.depth; text = joinable_text del_sp (string_bytes begun.text) ++ text }) → IfOk r (λ next. next.flowing ≡ is_flowing text)
-    → IfOk r (λ next. (more : List Para) → items ++ continue_open_para del_sp next more ≡ items ++ continue_open_para del_sp begun (line ∷ more))
-joined_more (Err e) items del_sp begun depth text line flowing same d t para last = tt
-joined_more (Ok next) items del_sp begun depth text line flowing same d t para last = λ more. ap (λ paras. items ++ paras) (
+-- a paragraph that flows is continued by the next line of its depth
+pub joined_line : (del_sp : Bool) (begun next : OpenPara) (text : List ℕ) (lines_left more : List Para) → begun.flowing ≡ true → lines_left ≡ record { depth = begun.depth; text = text } ∷ more
+    → para_of next ≡ record { depth = begun.depth; text = joinable_text del_sp (string_bytes begun.text) ++ text } → next.flowing ≡ is_flowing text
+    → continue_open_para del_sp next more ≡ continue_open_para del_sp begun lines_left
+joined_line del_sp begun next text lines_left more flowing left para last =
     ap (λ f. continue_para del_sp f (para_of next) more) last ∙ ap (λ p. continue_para del_sp (is_flowing text) p more) para
-    ∙ ap (λ s. continue_para del_sp (is_flowing s) (record { depth = begun.depth; text = joinable_text del_sp (string_bytes begun.text) ++ s }) more) t
-    ∙ sym (continue_para-join_lines del_sp begun.depth (string_bytes begun.text) line more (sym d ∙ same))
-    ∙ ap (λ f. continue_para del_sp f (para_of begun) (line ∷ more)) (sym flowing)
-    )
+    ∙ sym (continue_para-join_lines del_sp begun.depth (string_bytes begun.text) (record { depth = begun.depth; text = text }) more refl)
+    ∙ ap (λ f. continue_para del_sp f (para_of begun) (record { depth = begun.depth; text = text } ∷ more)) (sym flowing)
+    ∙ ap (λ ls. continue_open_para del_sp begun ls) (sym left)
+
+closed_by : (del_sp flowing : Bool) (para : Para) (more : List Para) → (flowing ≡ true → first_has_depth para.depth more ≡ false) → continue_para del_sp flowing para more ≡ para ∷ join_lines del_sp more
+closed_by del_sp false para more ends = refl
+closed_by del_sp true para more ends = rw (ends refl) refl
+
+-- a paragraph that flows into no line ends
+pub closed_para : (del_sp : Bool) (begun : OpenPara) (rest : List ℕ) → (begun.flowing ≡ true → first_has_depth begun.depth (map read_line (lines rest)) ≡ false)
+    → continue_open_para del_sp begun (map read_line (lines rest)) ≡ para_of begun ∷ paras_of rest del_sp
+unfolding paras_of
+closed_para del_sp begun rest ends = closed_by del_sp begun.flowing (para_of begun) (map read_line (lines rest)) ends
 
 pub read_depth : (depth more whole : ℕ) → min (depth + more) 4294967295 ≡ min whole 4294967295 → depth ≤ 4294967295 → more ≡ 0 → depth ≡ min whole 4294967295
 read_depth depth more whole same small none = omega arith
 
-pub paras_of-none : (text : List ℕ) (del_sp : Bool) → lines text ≡ [] → [] ≡ paras_of text del_sp
+pub paras_of-none : (text : List ℕ) (del_sp : Bool) → lines text ≡ [] → paras_of text del_sp ≡ []
 unfolding paras_of
-paras_of-none text del_sp none = sym (ap (λ ls. join_lines del_sp (map read_line ls)) none)
+paras_of-none text del_sp none = ap (λ ls. join_lines del_sp (map read_line ls)) none
 
 pub paras_of-first : (text line rest : List ℕ) (del_sp : Bool) → lines text ≡ line ∷ lines rest
     → continue_para del_sp (is_flowing (read_line line).text) (read_line line) (map read_line (lines rest)) ≡ paras_of text del_sp
 unfolding paras_of
 paras_of-first text line rest del_sp cut = sym (ap (λ ls. join_lines del_sp (map read_line ls)) cut)
 
-pub begun_first : (text line rest : List ℕ) (del_sp : Bool) (items : List Para) (begun : OpenPara) (depth : ℕ) (first : List ℕ) → items ≡ [] → lines text ≡ line ∷ lines rest
+pub begun_first : (text line rest : List ℕ) (del_sp : Bool) (begun : OpenPara) (depth : ℕ) (first : List ℕ) → lines text ≡ line ∷ lines rest
     → depth ≡ (read_line line).depth → first ≡ (read_line line).text → para_of begun ≡ record { depth = depth; text = first } → begun.flowing ≡ is_flowing first
-    → items ++ continue_open_para del_sp begun (map read_line (lines rest)) ≡ paras_of text del_sp
-begun_first text line rest del_sp items begun depth first none cut d t para flowing =
+    → continue_open_para del_sp begun (map read_line (lines rest)) ≡ paras_of text del_sp
+begun_first text line rest del_sp begun depth first cut d t para flowing =
     let more = map read_line (lines rest) in
     let same : para_of begun ≡ read_line line = para ∙ ap (λ n. record { depth = n; text = first }) d ∙ ap (λ s. record { depth = (read_line line).depth; text = s }) t in
-    ap (λ ps. ps ++ continue_open_para del_sp begun more) none
-    ∙ ap (λ p. continue_para del_sp begun.flowing p more) same
+    ap (λ p. continue_para del_sp begun.flowing p more) same
     ∙ ap (λ f. continue_para del_sp f (read_line line) more) (flowing ∙ ap is_flowing t)
     ∙ paras_of-first text line rest del_sp cut

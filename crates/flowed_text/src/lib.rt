@@ -6,7 +6,7 @@ mod reading;
 mod writing;
 
 use mail_values::Text;
-pub use reading::read_flowed;
+pub use reading::{Paras, read_flowed};
 pub use std::alloc::AllocError as Memory;
 pub use writing::write_flowed;
 

@@ -1,13 +1,14 @@
 //! Reads flowed text.
-ghost use Rattle.std.specs.Prelude.{◌≡◌, ◌∷◌, ◌++◌, Bool, true, ℕ, List, IfOk, OnOk, string_bytes};
-ghost use Rattle.flowed_text.specs.declared.Para.{Para};
-ghost use Rattle.flowed_text.specs.Paragraphs.{ends_in_space, joinable_text, is_flowing, paras_of, read_line};
-ghost use Rattle.flowed_text.specs.Reading.{EndsInSpaceIfFlowing, continue_open_para, para_of};
+ghost use Rattle.std.specs.Prelude.{◌≡◌, ◌<◌, [], ◌∷◌, ◌++◌, true, false, length, map, IfOk, IfSome, OnSome, IfNone, MatchOption, string_bytes};
+ghost use Rattle.flowed_text.specs.Lines.{lines};
+ghost use Rattle.flowed_text.specs.Paragraphs.{ends_in_space, first_has_depth, joinable_text, is_flowing, paras_of, read_line};
+ghost use Rattle.flowed_text.specs.Reading.{EndsInSpaceIfFlowing, para_of};
 
 use crate::lines::{split_line, strip_first};
 use crate::{Memory, Para};
 use mail_values::Text;
 use std::alloc::Global;
+use std::marker::Model;
 
 /// A paragraph up to its last line so far, and whether that line flows.
 #[derive(Drop)]
@@ -20,42 +21,79 @@ struct OpenPara {
 /// Returns the paragraphs of a text of `format=flowed` (RFC 3676 §4). `del_sp` is its parameter `DelSp`.
 ///
 /// A line flows only into one of its own depth. If none follows, it is read as a fixed line and keeps its last space (§4.5). A
-/// paragraph takes 32 bytes besides its text, so a text of empty lines takes 33 times its size.
+/// paragraph takes 32 bytes besides its text, so a text of empty lines takes 33 times its size: [`Paras`] reads one at a time.
 pub fn read_flowed(alloc: Global, text: &str, del_sp: bool) -> Result<Vec<Para>, Memory>
     ensures { IfOk result (λ paras. paras.items ≡ paras_of text.now del_sp) }
 {
     let mut paras = Vec::new(alloc);
-    let Some((first, mut rest)) = split_line(text) else {
-        return Ok(paras);
-    };
-    let (depth, first_text) = read_line(first);
-    let mut begun = open_para(alloc, depth, first_text)?;
-    while let Some((line, after)) = split_line(rest) {
-        begun = add_line(alloc, begun, line, del_sp, &mut paras)?;
-        rest = after;
+    let mut unread = Paras::new(text, del_sp);
+    while let Some(para) = unread.next(alloc)? {
+        paras.push(para)?;
     }
-    paras.push(close_para(begun))?;
     Ok(paras)
 }
 
-/// Adds a line: to the open paragraph if it flows into that line, and else as a new one.
-fn add_line(
-    alloc: Global,
-    begun: OpenPara,
-    line: &str,
+/// The paragraphs of a text that are still to be read, seen as their list.
+#[derive(Drop)]
+pub struct Paras<'t> {
+    rest: &'t str,
     del_sp: bool,
-    paras: &mut Vec<Para>,
-) -> Result<OpenPara, Memory>
-    requires { EndsInSpaceIfFlowing begun }
-    ensures ends_in_space_if_flowing { IfOk result EndsInSpaceIfFlowing }
-    ensures more { IfOk result (λ next. (more : List Para) → paras.new.items ++ continue_open_para del_sp next more ≡ paras.old.items ++ continue_open_para del_sp begun (read_line line.now ∷ more)) }
-{
-    let (depth, text) = read_line(line);
-    if begun.flowing && depth == begun.depth {
-        return join_line(begun, text, del_sp);
+}
+
+impl<'t> Model for Paras<'t> {
+    ghost use Rattle.std.specs.Prelude.{List};
+    ghost use Rattle.flowed_text.specs.declared.Para.{Para};
+    ghost use Rattle.flowed_text.specs.Paragraphs.{paras_of};
+
+    ghost Value = { List Para };
+
+    ghost view = { λ p. paras_of p.rest.now p.del_sp };
+}
+
+impl<'t> Paras<'t> {
+    /// The paragraphs of a text of `format=flowed`. `del_sp` is its parameter `DelSp`.
+    pub fn new(text: &'t str, del_sp: bool) -> Self
+        ensures { result ≡ paras_of text.now del_sp }
+    {
+        Paras { rest: text, del_sp }
     }
-    paras.push(close_para(begun))?;
-    open_para(alloc, depth, text)
+
+    /// Reads the next paragraph; `None` if there is none.
+    pub fn next(&mut self, alloc: Global) -> Result<Option<Para>, Memory>
+        ensures { IfOk result (λ found. MatchOption found (self.old ≡ []) (λ para. self.old ≡ para ∷ self.new)) }
+    {
+        let Some((first, after)) = split_line(self.rest) else {
+            return Ok(None);
+        };
+        let (depth, text) = read_line(first);
+        let mut begun = open_para(alloc, depth, text)?;
+        let mut rest = after;
+        while let Some((line, after)) = joinable_line(&begun, rest) {
+            begun = join_line(begun, line, self.del_sp)?;
+            rest = after;
+        }
+        self.rest = rest;
+        Ok(Some(close_para(begun)))
+    }
+}
+
+/// The text of the next line and what is left after it, if the open paragraph flows into that line.
+fn joinable_line<'t>(begun: &OpenPara, rest: &'t str) -> Option<(&'t str, &'t str)>
+    ensures line { IfSome result (λ cut. map read_line (lines rest.now) ≡ record { depth = begun.now.depth; text = cut.0.now } ∷ map read_line (lines cut.1.now)) }
+    ensures flows { OnSome result (begun.now.flowing ≡ true) }
+    ensures shorter { IfSome result (λ cut. length cut.1.now < length rest.now) }
+    ensures none { IfNone result (begun.now.flowing ≡ true → first_has_depth begun.now.depth (map read_line (lines rest.now)) ≡ false) }
+{
+    if !begun.flowing {
+        return None;
+    }
+    let (line, after) = split_line(rest)?;
+    let (depth, text) = read_line(line);
+    if depth == begun.depth {
+        Some((text, after))
+    } else {
+        None
+    }
 }
 
 /// Opens a paragraph with its first line.

@@ -1,7 +1,6 @@
 -- The pages of some messages, computed, as they are written.
-use Rattle.std.proofs.Common.{◌≡◌, ℕ, true, false, List, [], ◌∷◌, ◌++◌, codes, map, refl}
-use Rattle.std.specs.Prelude.{Option, Some, None}
-use Rattle.std.specs.Option.{option_map}
+use Rattle.std.proofs.Common.{◌≡◌, ℕ, true, false, List, [], ◌∷◌, codes, map, refl}
+use Rattle.std.specs.Prelude.{Some, None}
 use lib.Utf8.{encode}
 use Rattle.std.specs.Str.{is_utf8, chars}
 use Rattle.std.specs.Str.Lossy.{utf8_lossy, utf8_valid_len}
@@ -13,14 +12,13 @@ use Rattle.header_words.specs.EncodedWords.{with_words_decoded, items_from, join
 use Rattle.header_words.specs.Fields.{header_of}
 use Rattle.header_words.specs.Value.{decoded_of}
 use Rattle.mime_content.specs.Content.{content_of}
-use Rattle.mime_tree.specs.declared.choice.Shown.{Shown}
-use Rattle.mime_tree.specs.declared.choice.Shown.TheVariants.{Plain, Flowed, Html, Unread, Nothing}
+use Rattle.mime_tree.specs.declared.choice.Shown.TheVariants.{Plain, Html, Unread}
 use Rattle.mime_tree.specs.Body.{places, is_closing_line, is_delimiter_line}
 use Rattle.mime_tree.specs.Opening.{node_at, children_from, children_of, opens_beside, open_first, tree_after_steps, message_of, parts_of, tree_of}
 use Rattle.mime_tree.specs.Best.{best_of, leaf_to_show}
 use Rattle.mail_pages.specs.Text.{with_line_feeds}
 use Rattle.mail_pages.specs.Frame.{title_of, frame_before, frame_after, part_link, part_words}
-use Rattle.mail_pages.specs.Mail.{plain_text, paragraph, mail_of, is_unbuilt}
+use Rattle.mail_pages.specs.Mail.{plain_text, paragraph, mail_of}
 use Rattle.mail_pages.specs.ShowPage.{shown_at, shown_of, page_of, is_own}
 
 title_in : List ℕ → List ℕ
@@ -65,10 +63,6 @@ inner_page = refl
 choices : map (λ part. shown_at four_parts part) (None ∷ Some (1 ∷ []) ∷ Some (2 ∷ []) ∷ Some (3 ∷ []) ∷ Some (4 ∷ []) ∷ Some (5 ∷ []) ∷ Some (4 ∷ 1 ∷ []) ∷ []) ≡ Some (Html (1 ∷ [])) ∷ Some (Html (1 ∷ [])) ∷ Some (Unread (2 ∷ [])) ∷ Some (Plain (3 ∷ [])) ∷ None ∷ None ∷ Some (Plain (4 ∷ 1 ∷ [])) ∷ []
 unfolding digits decoded_of with_words_decoded items_from joined word_at word_text quoted_bytes line_bytes without_blanks unescaped page_of shown_of frame_before frame_after part_link part_words plain_text paragraph mail_of with_line_feeds spell is_void message_void_elements frame_void_elements best_of leaf_to_show tree_of parts_of message_of tree_after_steps open_first opens_beside children_of children_from node_at content_of places is_closing_line is_delimiter_line header_of utf8_lossy utf8_valid_len is_utf8 chars encode
 choices = refl
-
--- a flowed text isn't shown yet
-unbuilt : map is_unbuilt (Plain [] ∷ Flowed [] true ∷ Flowed [] false ∷ Html [] ∷ Unread [] ∷ Nothing ∷ []) ≡ false ∷ true ∷ true ∷ false ∷ false ∷ false ∷ []
-unbuilt = refl
 
 -- nothing to show
 nothing_page : spell (shown_of (codes "Content-Type: image/png\n\nx") None false) ≡ codes "<p>No text to show.</p>"

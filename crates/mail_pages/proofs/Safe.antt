@@ -1,5 +1,5 @@
 -- The page of a message is allowed, and loads nothing else.
-use Rattle.std.proofs.Common.{◌≡◌, ℕ, Bool, true, false, inr, List, [], ◌∷◌, ◌++◌, codes, inl, refl, sym, ap, ◌∙◌, append_assoc, Option, Some, None, length, decimal, map}
+use Rattle.std.proofs.Common.{◌≡◌, ℕ, Bool, true, inr, List, [], ◌∷◌, ◌++◌, codes, inl, refl, sym, ap, ◌∙◌, append_assoc, Option, Some, None, length, decimal, map}
 use Rattle.std.proofs.lemmas.Str.{chars-append}
 use Rattle.std.proofs.lemmas.Bool.{cases_Bool}
 use Rattle.std.specs.List.{list_all}
@@ -11,7 +11,7 @@ use Rattle.html_rules.specs.Tokens.{start_tag, start_tag_with}
 use Rattle.html_rules.specs.Nesting.{open_elements_after, IsNested}
 use Rattle.html_rules.specs.MessageTokens.{is_message_token}
 use Rattle.html_rules.specs.FrameTokens.{is_frame_token, is_frame, opens_mail, is_local_address}
-use Rattle.html_rules.specs.Allowed.{IsAllowed, loads}
+use Rattle.html_rules.specs.Allowed.{IsAllowed}
 use Rattle.html_rules.proofs.Nesting.{open_after-text}
 use Rattle.html_rules.proofs.Parts.{is_frame-append, is_frame-text, is_message-append, is_message-text, allowed_loads}
 use Rattle.header_words.specs.Fields.{FieldValue, header_of, first_of}
@@ -23,7 +23,9 @@ use Rattle.mime_tree.specs.Best.{part_at}
 use Rattle.mime_tree.specs.Opening.{tree_of}
 use Rattle.mime_tree.specs.Tree.{PartValue}
 use Rattle.mail_pages.specs.Frame.{text, element, document_start, document_head, document_end, style_link, field_row, row_of_field, row_of, field_rows, title_of, message_head, mail, frame_before, part_address, part_link, name_words, part_words, part_item, is_leaf, leaf_item, part_items, part_list, frame_after, line_end}
-use Rattle.mail_pages.specs.Mail.{choice, decoded_text, site_place, references_in, washed_html, html_part, plain_text, text_of_part, paragraph, unread_words, plain_part, unread_part, mail_of, mail_or_none}
+use Rattle.mail_pages.specs.Mail.{choice, decoded_text, site_place, references_in, washed_html, html_part, plain_text, text_of_part, paragraph, unread_words, plain_part, unread_part, flowed_tokens, flowed_part, mail_of, mail_or_none}
+use Rattle.flowed_text.specs.Paragraphs.{paras_of}
+use Rattle.mail_pages.proofs.Quotes.{flowed_message, flowed_nested}
 use Rattle.mail_pages.specs.ShowPage.{shown_of, page_of}
 use Rattle.html_syntax.specs.Tokenizer.{tokens, tokens_of_bytes, replace_null}
 use Rattle.cid_parts.specs.Located.{located_parts}
@@ -165,6 +167,11 @@ unread_part_is : (images : Bool) (own : List ℕ → Bool) (p : Option PartValue
 unread_part_is images own None = refl
 unread_part_is images own (Some p) = paragraph_is images own (unread_words p)
 
+flowed_part_is : (images : Bool) (own : List ℕ → Bool) (del_sp : Bool) (p : Option PartValue) → list_all (is_message_token images own) (flowed_part del_sp p) ≡ true
+unfolding flowed_tokens
+flowed_part_is images own del_sp None = refl
+flowed_part_is images own del_sp (Some p) = flowed_message images own (paras_of (decoded_text p) del_sp)
+
 -- what is washed is a message's, with the parts that addresses may name as its own
 washed : (parts : List PartValue) (images : Bool) (p : PartValue) → IsWashed (given_of (references_in parts p) site_place images) (is_part_address site_place (located_parts parts)) start (tokens (chars (decoded_text p))) (wash_from (given_of (references_in parts p) site_place images) start (tokens (chars (decoded_text p))))
 washed parts images p = washed_is_allowed (given_of (references_in parts p) site_place images) (is_part_address site_place (located_parts parts)) start (tokens (chars (decoded_text p))) (references_sound (references_in parts p) site_place images) refl
@@ -179,7 +186,7 @@ unfolding mail_of
 mail_is parts images (Plain section) = plain_part_is images (is_part_address site_place (located_parts parts)) (part_at section parts)
 mail_is parts images (Unread section) = unread_part_is images (is_part_address site_place (located_parts parts)) (part_at section parts)
 mail_is parts images Nothing = paragraph_is images (is_part_address site_place (located_parts parts)) (codes "No text to show.")
-mail_is parts images (Flowed section del_sp) = refl
+mail_is parts images (Flowed section del_sp) = flowed_part_is images (is_part_address site_place (located_parts parts)) del_sp (part_at section parts)
 mail_is parts images (Html section) = html_part_is parts images (part_at section parts)
 
 mail_or_none_is : (parts : List PartValue) (images : Bool) (shown : Option Shown) → list_all (is_message_token images (is_part_address site_place (located_parts parts))) (mail_or_none parts images shown) ≡ true
@@ -210,6 +217,11 @@ unread_part_nested : (p : Option PartValue) → IsNested (unread_part p)
 unread_part_nested None = nothing_nested
 unread_part_nested (Some p) = paragraph_nested (unread_words p)
 
+flowed_part_nested : (del_sp : Bool) (p : Option PartValue) → IsNested (flowed_part del_sp p)
+unfolding flowed_tokens
+flowed_part_nested del_sp None = nothing_nested
+flowed_part_nested del_sp (Some p) = flowed_nested (paras_of (decoded_text p) del_sp)
+
 html_part_nested : (parts : List PartValue) (images : Bool) (p : Option PartValue) → IsNested (html_part parts images p)
 unfolding washed_html wash
 html_part_nested parts images None = nothing_nested
@@ -220,7 +232,7 @@ unfolding mail_of
 mail_nested parts images (Plain section) = plain_part_nested (part_at section parts)
 mail_nested parts images (Unread section) = unread_part_nested (part_at section parts)
 mail_nested parts images Nothing = paragraph_nested (codes "No text to show.")
-mail_nested parts images (Flowed section del_sp) = nothing_nested
+mail_nested parts images (Flowed section del_sp) = flowed_part_nested del_sp (part_at section parts)
 mail_nested parts images (Html section) = html_part_nested parts images (part_at section parts)
 
 mail_or_none_nested : (parts : List PartValue) (images : Bool) (shown : Option Shown) → IsNested (mail_or_none parts images shown)

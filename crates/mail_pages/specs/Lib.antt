@@ -1,5 +1,6 @@
 pub mod Text
 pub mod Gathered
 pub mod Frame
+pub mod Flowed
 pub mod Mail
 pub mod ShowPage

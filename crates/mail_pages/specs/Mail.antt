@@ -1,5 +1,5 @@
 -- What is shown of a message, and its tokens.
-use Rattle.std.specs.Prelude.{ℕ, Bool, true, false, ◌||◌, List, [], ◌∷◌, ◌++◌, if◌then◌else◌, codes, chars, bytes_eq, Option, Some, None, is_some, unwrap_or, option_and_then}
+use Rattle.std.specs.Prelude.{ℕ, Bool, ◌||◌, List, [], ◌∷◌, ◌++◌, if◌then◌else◌, codes, chars, bytes_eq, Option, Some, None, is_some, unwrap_or, option_and_then}
 use Rattle.html_syntax.specs.Token.{Token}
 use Rattle.html_syntax.specs.Token.Token.{End}
 use Rattle.html_rules.specs.Tokens.{start_tag}
@@ -16,7 +16,9 @@ use Rattle.cid_parts.specs.Located.{ReferencesValue, located_parts, base_of}
 use Rattle.wash_attributes.specs.declared.place.Place.{Place}
 use Rattle.wash_attributes.specs.Addresses.{given_of}
 use Rattle.html_wash.specs.Wash.{wash}
+use Rattle.flowed_text.specs.Paragraphs.{paras_of}
 use Rattle.mail_pages.specs.Text.{with_line_feeds}
+use Rattle.mail_pages.specs.Flowed.{flowed_paras}
 use Rattle.mail_pages.specs.Frame.{text, element, line_end}
 
 -- ---- which part
@@ -38,14 +40,6 @@ abbrev pub choice : TreeValue → Option (List ℕ) → Option Shown
 choice tree None = Some (best_of tree)
 choice tree (Some section) = option_and_then shown_if_requested (part_at section tree.parts)
 
--- the kind that isn't shown yet: flowed text
-abbrev pub is_unbuilt : Shown → Bool
-is_unbuilt (Plain section) = false
-is_unbuilt (Flowed section del_sp) = true
-is_unbuilt (Html section) = false
-is_unbuilt (Unread section) = false
-is_unbuilt Nothing = false
-
 -- ---- its tokens
 
 -- the text of a part, in UTF-8: decoded by its coding and its charset
@@ -59,6 +53,10 @@ text_of_part p = with_line_feeds (decoded_text p)
 -- a plain text
 unfoldable pub plain_text : List ℕ → List Token
 plain_text content = start_tag (codes "pre") ∷ line_end ∷ text content ++ End (codes "pre") ∷ []
+
+-- flowed text: its paragraphs
+unfoldable pub flowed_tokens : Bool → PartValue → List Token
+flowed_tokens del_sp p = flowed_paras (paras_of (decoded_text p) del_sp)
 
 -- where the site has the parts of the message
 abbrev pub site_place : Place
@@ -83,6 +81,10 @@ abbrev pub plain_part : Option PartValue → List Token
 plain_part (Some p) = plain_text (text_of_part p)
 plain_part None = []
 
+abbrev pub flowed_part : Bool → Option PartValue → List Token
+flowed_part del_sp (Some p) = flowed_tokens del_sp p
+flowed_part del_sp None = []
+
 abbrev pub unread_part : Option PartValue → List Token
 unread_part (Some p) = paragraph (unread_words p)
 unread_part None = []
@@ -96,7 +98,7 @@ unfoldable pub mail_of : List PartValue → Bool → Shown → List Token
 mail_of parts images (Plain section) = plain_part (part_at section parts)
 mail_of parts images (Unread section) = unread_part (part_at section parts)
 mail_of parts images Nothing = paragraph (codes "No text to show.")
-mail_of parts images (Flowed section del_sp) = []
+mail_of parts images (Flowed section del_sp) = flowed_part del_sp (part_at section parts)
 mail_of parts images (Html section) = html_part parts images (part_at section parts)
 
 -- no tokens if nothing is shown

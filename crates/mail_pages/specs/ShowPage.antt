@@ -1,7 +1,6 @@
 -- The page of a message, as its tokens, and what a browser makes of it.
-use Rattle.std.specs.Prelude.{◌≡◌, ℕ, Bool, false, true, List, ◌++◌, encode_utf8_all, Option, Some, None, IsTrue}
+use Rattle.std.specs.Prelude.{◌≡◌, ℕ, Bool, true, List, ◌++◌, encode_utf8_all, Option, None, is_some, IsTrue}
 use Rattle.std.specs.List.{AllByRecursion}
-use Rattle.std.specs.Option.{option_map}
 use Rattle.html_syntax.specs.Token.{Token}
 use Rattle.html_syntax.specs.Tokenizer.{tokens_of_bytes}
 use Rattle.html_rules.specs.Nesting.{IsNested}
@@ -13,7 +12,7 @@ use Rattle.mime_tree.specs.Opening.{tree_of}
 use Rattle.cid_parts.specs.Located.{located_parts}
 use Rattle.wash_attributes.specs.Soundness.{is_part_address}
 use Rattle.mail_pages.specs.Frame.{frame_before, frame_after}
-use Rattle.mail_pages.specs.Mail.{choice, site_place, mail_or_none, is_unbuilt}
+use Rattle.mail_pages.specs.Mail.{choice, site_place, mail_or_none}
 
 -- the tokens of what is shown of a message
 unfoldable pub shown_of : List ℕ → Option (List ℕ) → Bool → List Token
@@ -44,10 +43,7 @@ abbrev pub shown_at : List ℕ → Option (List ℕ) → Option Shown
 shown_at message part = choice (tree_of message) part
 
 abbrev pub IsShown : List ℕ → Option (List ℕ) → Type 0
-IsShown message part = option_map is_unbuilt (shown_at message part) ≡ Some false
-
-abbrev pub IsUnbuilt : List ℕ → Option (List ℕ) → Type 0
-IsUnbuilt message part = option_map is_unbuilt (shown_at message part) ≡ Some true
+IsShown message part = is_some (shown_at message part) ≡ true
 
 abbrev pub IsMissing : List ℕ → Option (List ℕ) → Type 0
 IsMissing message part = shown_at message part ≡ None

@@ -6,6 +6,7 @@
 #![tactic(auto)]
 
 mod elements;
+mod flowed;
 mod frame;
 mod html;
 mod mail;

@@ -2,9 +2,10 @@
 ghost use Rattle.std.specs.Prelude.{◌≡◌, ◌++◌, codes, IfOk, OnOk, IsTrue, false, string_bytes};
 ghost use Rattle.page_writer.specs.Page.{takes_tags};
 ghost use Rattle.mail_pages.specs.Frame.{with_tokens, text};
-ghost use Rattle.mail_pages.specs.Mail.{shown_if_requested, is_text_part, text_shown_as, choice, is_unbuilt, plain_text, text_of_part, unread_words, paragraph, mail_of};
+ghost use Rattle.mail_pages.specs.Mail.{shown_if_requested, is_text_part, text_shown_as, choice, plain_text, text_of_part, unread_words, paragraph, mail_of};
 
 use crate::elements::{open, write_element};
+use crate::flowed::write_flowed;
 use crate::html::write_html;
 use crate::text::write_body;
 use mime_tree::{Coding, Part, Section, Shown, Tree, best, part, shown_as};
@@ -51,16 +52,6 @@ fn text_shown_as(part: &Part<'_>) -> Shown
     }
 }
 
-/// Whether this kind isn't shown yet.
-pub fn is_unbuilt(shown: &Shown) -> bool
-    ensures { result ≡ is_unbuilt shown.now }
-{
-    match shown {
-        Shown::Flowed(..) => true,
-        Shown::Plain(..) | Shown::Html(..) | Shown::Unread(..) | Shown::Nothing => false,
-    }
-}
-
 /// Writes what is shown.
 #[tactic(auto, unfolding(page_writer::specs::Writing::literals, crate::specs::Mail::mail_of, crate::specs::Mail::paragraph))]
 pub fn write_mail(
@@ -87,7 +78,10 @@ pub fn write_mail(
             Some(part) => write_html(alloc, out, tree, images, part),
             None => Ok(()),
         },
-        Shown::Flowed(..) => Ok(()),
+        Shown::Flowed(section, del_sp) => match part(tree, section) {
+            Some(part) => write_flowed(alloc, out, part, *del_sp),
+            None => Ok(()),
+        },
     }
 }
 

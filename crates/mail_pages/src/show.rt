@@ -1,8 +1,8 @@
 //! The page of a message.
 ghost use Rattle.std.specs.Prelude.{◌≡◌, IfOk, OnOk, IsErrOf};
-ghost use Rattle.mail_pages.specs.ShowPage.{page_bytes, IsSafe, IsShown, IsUnbuilt, IsMissing};
+ghost use Rattle.mail_pages.specs.ShowPage.{page_bytes, IsSafe, IsShown, IsMissing};
 
-use crate::mail::{choose, is_unbuilt};
+use crate::mail::choose;
 use crate::page::message_page;
 use mime_tree::{Section, tree};
 use page_writer::PageBytes;
@@ -11,8 +11,6 @@ use std::alloc::{AllocError, Global};
 /// The reason that a message has no page.
 #[derive(Clone, Copy)]
 pub enum PageFault {
-    /// The part is of a kind that isn't shown yet.
-    NotBuilt,
     /// No text has that section.
     NoSuchPart,
     Memory,
@@ -40,15 +38,11 @@ pub fn show_page(
     ensures is_shown { OnOk result (IsShown message.now part.now) }
     ensures equals { IfOk result (λ page. page ≡ page_bytes message.now part.now images) }
     ensures is_safe { OnOk result (IsSafe message.now part.now images) }
-    ensures only_if_unbuilt { IsErrOf result PageFault.NotBuilt → IsUnbuilt message.now part.now }
     ensures only_if_missing { IsErrOf result PageFault.NoSuchPart → IsMissing message.now part.now }
 {
     let tree = tree(alloc, message)?;
     let Some(shown) = choose(&tree, part) else {
         return Err(PageFault::NoSuchPart);
     };
-    if is_unbuilt(&shown) {
-        return Err(PageFault::NotBuilt);
-    }
     Ok(message_page(alloc, message, part, images, &tree, &shown)?)
 }

@@ -1,8 +1,9 @@
 //! Runs of `show` on HTML: what is shown of a message.
-use mail_io::{Bytes, Memory, MemorySink, MemorySource};
+use crate::mails::{push_times, run_on};
+use mail_io::Memory;
 use std::alloc::Global;
 use std::test::Fail;
-use webmail_runs::{DONE, Status, run_show};
+use webmail_runs::DONE;
 
 /// The newsletter up to its page's header.
 const NEWSLETTER_START: &str = "From: \"College News\" <news@c.example>\r\n\
@@ -49,37 +50,6 @@ Content-Transfer-Encoding: base64\r\n\
 R0lGODlh\r\n\
 --r1--\r\n\
 --a1--\r\n";
-
-/// A run: how it ended, and what it shows of the message.
-#[derive(Drop)]
-struct Run {
-    status: Status,
-    mail: String,
-}
-
-/// What a page has between `<div class="mail">` and the list of parts.
-fn mail_in(page: &str) -> &str {
-    match page.split_once("<div class=\"mail\">") {
-        Some((_, rest)) => match rest.split_once("</div>\n<ul class=\"parts\">") {
-            Some((mail, _)) => mail,
-            None => "no end",
-        },
-        None => "no mail",
-    }
-}
-
-fn run_on(alloc: Global, words: &[&str], message: String) -> Result<Run, Memory> {
-    let mut given = Vec::new(alloc);
-    for word in words {
-        given.push(String::from_str(alloc, word)?)?;
-    }
-    let mut source = MemorySource::new(Bytes::from_vec(message.into_bytes()), Vec::new(alloc));
-    let mut sink = MemorySink::new(alloc, 8192, Vec::new(alloc))?;
-    let status = run_show(alloc, &given, &mut source, &mut sink);
-    let page = String::from_utf8_lossy(alloc, sink.taken())?;
-    let mail = String::from_str(alloc, mail_in(&page))?;
-    Ok(Run { status, mail })
-}
 
 /// The message of one HTML part.
 fn html_message(alloc: Global, html: &str) -> Result<String, Memory> {
@@ -160,14 +130,6 @@ fn shows_pictures(rt: HostRuntime) -> Result<(), Fail> {
         let run = run_on(alloc, words, newsletter(alloc, page)?)?;
         assert_eq!(rt; run.status, DONE, "{words:?}");
         assert_eq!(rt; run.mail.as_str(), want);
-    }
-    Ok(())
-}
-
-/// `count` times a text.
-fn push_times(text: &mut String, piece: &str, count: usize) -> Result<(), Memory> {
-    for _ in 0..count {
-        text.push_str(piece)?;
     }
     Ok(())
 }

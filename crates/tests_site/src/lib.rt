@@ -2,6 +2,10 @@
 #![tactic(auto)]
 
 #[cfg(test)]
+mod flowed;
+#[cfg(test)]
 mod html;
+#[cfg(test)]
+mod mails;
 #[cfg(test)]
 mod show;

@@ -22,8 +22,6 @@ const UNREAD: &[u8] = b"Content-Type: multipart/mixed; boundary=b\r\n\r\n\
 --b\r\nContent-Type: text/plain; charset=\"<i>\"\r\n\r\nx\r\n\
 --b\r\nContent-Type: image/png\r\n\r\ny\r\n--b--\r\n";
 
-const FLOWED: &[u8] = b"Content-Type: text/plain; format=flowed\r\n\r\na \r\nb\r\n";
-
 /// A newsletter: a plain text beside a page with two pictures.
 const NEWSLETTER: &[u8] = b"From: \"College News\" <news@c.example>\r\n\
 To: ann@c.example\r\n\
@@ -253,6 +251,22 @@ fn shows_parts(rt: HostRuntime) -> Result<(), Fail> {
         ),
         (
             ["show"].as_slice(),
+            NEWSLETTER,
+            "Caf\u{E9} week",
+            "<tr><th>From</th><td>&quot;College News&quot; &lt;news@c.example&gt;</td></tr><tr><th>To</th><td>ann@c.example</td></tr><tr><th>Date</th><td>Mon, 5 Jan 2026 09:00:00 +0000</td></tr>",
+            "<table width=\"600\"><tr><td><img src=\"/part/0/0/2.2?f=\" width=\"600\" height=\"80\"><p style=\"color: #333; margin: 0 0 10px\">Caf\u{E9}</p><img><img src=\"/part/0/0/2.3?f=\"></td></tr></table>",
+            "<li><a href=\"/part/0/0/1?f=\">1</a> text/plain 9</li><li><a href=\"/part/0/0/2.1?f=\">2.1</a> text/html 307</li><li><a href=\"/part/0/0/2.2?f=\">2.2</a> image/png top.png 8</li><li><a href=\"/part/0/0/2.3?f=\">2.3</a> image/gif 8</li>",
+        ),
+        (
+            ["show", "--images"].as_slice(),
+            NEWSLETTER,
+            "Caf\u{E9} week",
+            "<tr><th>From</th><td>&quot;College News&quot; &lt;news@c.example&gt;</td></tr><tr><th>To</th><td>ann@c.example</td></tr><tr><th>Date</th><td>Mon, 5 Jan 2026 09:00:00 +0000</td></tr>",
+            "<table width=\"600\"><tr><td><img src=\"/part/0/0/2.2?f=\" width=\"600\" height=\"80\"><p style=\"color: #333; margin: 0 0 10px\">Caf\u{E9}</p><img src=\"http://t.example/o\"><img src=\"/part/0/0/2.3?f=\"></td></tr></table>",
+            "<li><a href=\"/part/0/0/1?f=\">1</a> text/plain 9</li><li><a href=\"/part/0/0/2.1?f=\">2.1</a> text/html 307</li><li><a href=\"/part/0/0/2.2?f=\">2.2</a> image/png top.png 8</li><li><a href=\"/part/0/0/2.3?f=\">2.3</a> image/gif 8</li>",
+        ),
+        (
+            ["show"].as_slice(),
             ATTACHMENTS,
             "(no subject)",
             "",
@@ -363,7 +377,6 @@ fn answers_parts_that_are_not_shown(rt: HostRuntime) -> Result<(), Fail> {
         ("2.2", NEWSLETTER, NO_SUCH_PART),
         ("2", FORWARDED, NO_SUCH_PART),
         ("1", ATTACHMENTS, NO_SUCH_PART),
-        ("1", FLOWED, NOT_BUILT),
     ] {
         let message = Vec::from_slice(alloc, message)?;
         let run = run_on(
@@ -377,9 +390,6 @@ fn answers_parts_that_are_not_shown(rt: HostRuntime) -> Result<(), Fail> {
         assert_eq!(rt; run.status, status, "{section}");
         assert_eq!(rt; run.page.len(), 0, "{section}");
     }
-    let message = Vec::from_slice(alloc, FLOWED)?;
-    let run = run_on(alloc, &["show"], message, &[], &[1], 4096)?;
-    assert_eq!(rt; run.status, NOT_BUILT);
     Ok(())
 }
 

@@ -1,9 +1,10 @@
 -- What a run of `show` reads and writes, and what its words mean.
-use Rattle.std.specs.Prelude.{◌≡◌, ◌≢◌, ◌⊎◌, ℕ, Bool, true, false, ◌<◌, ◌==◌, if◌then◌else◌, List, [], ◌∷◌, length, codes, Option, Some, None, IfSome}
+use Rattle.std.specs.Prelude.{◌≡◌, ◌≢◌, ◌⊎◌, ℕ, Bool, true, false, ◌<◌, List, [], ◌∷◌, length, codes, Option, Some, None, IfSome}
 use Rattle.std.specs.Io.KnownBytes.{Appends}
 use Rattle.mail_values.specs.Section.{IsSection, spelling}
 use Rattle.mail_io.specs.Stream.{ReadsWhole, WritesSome}
 use Rattle.mail_pages.specs.ShowPage.{page_bytes, IsSafe, IsShown}
+use Rattle.webmail_runs.specs.Outcomes.{done, write_fault, no_such_part}
 
 -- ---- the words
 
@@ -36,13 +37,17 @@ RequestsNothing words = (part : Option (List ℕ)) (images : Bool) → RequestsP
 
 -- ---- the run
 
+-- the greatest length of a message in bytes
+abbrev pub message_limit : ℕ
+message_limit = 26_214_400
+
 -- the whole message was read, and this holds of it, of the requested part, and of whether remote pictures were requested
-pub record ReadsRequest (words : List (List ℕ)) (limit : ℕ) (left_old left_new : Option (List ℕ)) (Of : List ℕ → Option (List ℕ) → Bool → Type 0) : Type 0 where
+pub record ReadsRequest (words : List (List ℕ)) (left_old left_new : Option (List ℕ)) (Of : List ℕ → Option (List ℕ) → Bool → Type 0) : Type 0 where
   pub message : List ℕ
   pub part : Option (List ℕ)
   pub images : Bool
   pub requests : RequestsPage words part images
-  pub reads : ReadsWhole limit left_old left_new message
+  pub reads : ReadsWhole message_limit left_old left_new message
   pub holds : Of message part images
 
 -- the message has a safe page, and the whole page was written
@@ -57,16 +62,5 @@ pub record IsBegun (taken_old taken_new : Option (List ℕ)) (message : List ℕ
   pub written : WritesSome taken_old taken_new (page_bytes message part images)
 
 -- if the source tells what it holds, no part of a message longer than the limit is shown
-abbrev pub RefusesLong : ℕ → Option (List ℕ) → ℕ → Type 0
-RefusesLong limit left status = IfSome left (λ message. limit < length message → (status ≢ 0) × (status ≢ 4) × (status ≢ 7) × (status ≢ 8))
-
--- the line of a status
-unfoldable pub status_text : ℕ → List ℕ
-status_text status =
-    if status == 2 then codes "webmail: wrong words"
-    else (if status == 3 then codes "webmail: read fault"
-    else (if status == 4 then codes "webmail: write fault"
-    else (if status == 5 then codes "webmail: out of memory"
-    else (if status == 6 then codes "webmail: message too long"
-    else (if status == 7 then codes "webmail: not built"
-    else (if status == 8 then codes "webmail: no such part" else []))))))
+abbrev pub RefusesLong : Option (List ℕ) → ℕ → Type 0
+RefusesLong left status = IfSome left (λ message. message_limit < length message → (status ≢ done.status) × (status ≢ write_fault.status) × (status ≢ no_such_part.status))

@@ -1,6 +1,6 @@
 //! The statuses of the program.
 ghost use Rattle.std.specs.Prelude.{◌≡◌};
-ghost use Rattle.webmail_runs.specs.Run.{status_text};
+ghost use Rattle.webmail_runs.specs.Outcomes.{status_text};
 
 /// The exit status of the process.
 pub type Status = u8;
@@ -22,14 +22,14 @@ pub const OUT_OF_MEMORY: Status = 5;
 /// The message is longer than the limit.
 pub const TOO_LONG: Status = 6;
 
-/// The part is of a kind that isn't shown yet.
+/// What was requested isn't built. No run ends so today.
 pub const NOT_BUILT: Status = 7;
 
 /// The message has no text of that section.
 pub const NO_SUCH_PART: Status = 8;
 
 /// The line that is written to standard error at a status: none at success, and none at an unknown status.
-#[tactic(auto, unfolding(crate::specs::Run::status_text))]
+#[tactic(auto, unfolding(crate::specs::Outcomes::status_text, crate::specs::Outcomes::line_among))]
 pub fn status_line(status: Status) -> &'static str
     ensures { result.now ≡ status_text status }
 {

@@ -1,18 +1,9 @@
-use denote.Shadow.{shadow}
-use denote.Text.{Utf8}
 use Rattle.std.proofs.Common.{◌≡◌, ◌++◌, length}
-use Rattle.std.specs.Prelude.{map}
-use Rattle.flowed_text.specs.Lines.{lines}
-use Rattle.flowed_text.specs.Paragraphs.{paras_of, read_line}
-use Rattle.flowed_text.specs.Reading.{EndsInSpaceIfFlowing, continue_open_para}
+use Rattle.flowed_text.specs.Paragraphs.{paras_of}
 use Rattle.flowed_text.proofs.reading.read_flowed.Given as goal
 
-abbrev pub invariant-loop-line : goal.invariant-loop-line
-invariant-loop-line l = record {
-  text : shadow (Utf8 l.rest);
-  sound : EndsInSpaceIfFlowing l.begun;
-  paras : l.paras.items ++ continue_open_para l.del_sp l.begun (map read_line (lines l.rest)) ≡ paras_of l.text l.del_sp;
-}
+abbrev pub invariant-loop-paras : goal.invariant-loop-paras
+invariant-loop-paras l = l.paras.items ++ l.unread ≡ paras_of l.text l.del_sp
 
-abbrev pub decreases-loop-line : goal.decreases-loop-line
-decreases-loop-line l = length l.rest
+abbrev pub decreases-loop-paras : goal.decreases-loop-paras
+decreases-loop-paras l = length l.unread
