@@ -1,9 +1,10 @@
 //! A talk as a link in memory records it.
 ghost use Rattle.std.specs.Prelude.{◌≡◌, ◌<◌, ◌≤◌, nat_lt, Bool, true, false, [], ℕ, List, length, Some, IfOk};
-ghost use Rattle.account_pictures.specs.declared.talk.Piece.{Piece};
-ghost use Rattle.mail_io.specs.Recordings.{entry_len, piece_of, with_piece, with_nothing_said};
+ghost use Rattle.account_pictures.specs.declared.talk.Piece.TheVariants as pieces;
+ghost use Rattle.mail_io.specs.Recordings.{entry_len, piece_of, pieces_of, entries_len, with_piece, with_nothing_said};
 ghost use Rattle.mail_io.specs.Talks.{SaysPrefix};
 
+use crate::{Bytes, Piece};
 use std::alloc::{AllocError, Global};
 use std::marker::Model;
 
@@ -13,6 +14,30 @@ pub enum Entry {
     Dialled { fresh: bool },
     Said { len: usize },
     Heard { len: usize },
+}
+
+impl Entry {
+    /// The number of bytes that the entry has in the buffer.
+    fn len(&self) -> usize
+        ensures { result ≡ entry_len self.now }
+    {
+        match self {
+            Entry::Dialled { .. } => 0,
+            Entry::Said { len } | Entry::Heard { len } => *len,
+        }
+    }
+
+    /// The piece of the entry, whose bytes are these.
+    fn piece(&self, alloc: Global, bytes: &[u8]) -> Result<Piece, AllocError>
+        requires { entry_len self.now ≡ length bytes.now }
+        ensures { IfOk result (λ piece. piece ≡ piece_of self.now bytes.now) }
+    {
+        match self {
+            Entry::Dialled { fresh } => Ok(Piece::Dialled { fresh: *fresh }),
+            Entry::Said { .. } => Ok(Piece::Said(Bytes::from_slice(alloc, bytes)?)),
+            Entry::Heard { .. } => Ok(Piece::Heard(Bytes::from_slice(alloc, bytes)?)),
+        }
+    }
 }
 
 /// A talk, in room that is made beforehand.
@@ -65,10 +90,17 @@ impl Recording {
         self.entry_room.saturating_sub(self.entries.len())
     }
 
+    /// The pieces so far.
+    pub fn pieces(&self, alloc: Global) -> Result<Vec<Piece>, AllocError>
+        ensures { IfOk result (λ pieces. pieces.items ≡ self.now.talk) }
+    {
+        read_pieces(alloc, &self.entries, &self.bytes)
+    }
+
     /// Records that the link was dialled.
     pub fn dial(&mut self, fresh: bool)
         requires room { 0 < self.old.entry_room }
-        ensures { self.new ≡ with_piece self.old (Piece.Dialled fresh) 0 }
+        ensures { self.new ≡ with_piece self.old (pieces.Dialled fresh) 0 }
     {
         self.record(Entry::Dialled { fresh }, &[]);
     }
@@ -77,7 +109,7 @@ impl Recording {
     pub fn say(&mut self, bytes: &[u8])
         requires room { 0 < self.old.entry_room }
         requires byte_room { length bytes.now ≤ self.old.byte_room }
-        ensures { self.new ≡ with_piece self.old (Piece.Said bytes.now) (length bytes.now) }
+        ensures { self.new ≡ with_piece self.old (pieces.Said bytes.now) (length bytes.now) }
     {
         self.record(Entry::Said { len: bytes.len() }, bytes);
     }
@@ -86,7 +118,7 @@ impl Recording {
     pub fn hear(&mut self, bytes: &[u8])
         requires room { 0 < self.old.entry_room }
         requires byte_room { length bytes.now ≤ self.old.byte_room }
-        ensures { self.new ≡ with_piece self.old (Piece.Heard bytes.now) (length bytes.now) }
+        ensures { self.new ≡ with_piece self.old (pieces.Heard bytes.now) (length bytes.now) }
     {
         self.record(Entry::Heard { len: bytes.len() }, bytes);
     }
@@ -111,4 +143,22 @@ impl Recording {
             self.entries.push(Entry::Said { len: 0 }).unwrap();
         }
     }
+}
+
+/// The pieces of entries whose bytes follow each other.
+#[tactic(auto, unfolding(crate::specs::Recordings::pieces_of, crate::specs::Recordings::entries_len))]
+fn read_pieces(alloc: Global, entries: &[Entry], bytes: &[u8]) -> Result<Vec<Piece>, AllocError>
+    requires { entries_len entries.now ≡ length bytes.now }
+    ensures { IfOk result (λ read. read.items ≡ pieces_of entries.now bytes.now) }
+{
+    let mut read = Vec::new(alloc);
+    let mut rest = entries;
+    let mut left = bytes;
+    while let [entry, more @ ..] = rest {
+        let (front, after) = left.split_at(entry.len());
+        read.push(entry.piece(alloc, front)?)?;
+        rest = more;
+        left = after;
+    }
+    Ok(read)
 }

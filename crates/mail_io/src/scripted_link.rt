@@ -1,6 +1,6 @@
 //! A link in memory, whose calls fail if their numbers are in a list. The first call has the number 1.
 ghost use Rattle.std.specs.Prelude.{◌≡◌, ◌<◌, ◌≤◌, ◌⊎◌, ◌↔◌, [], false, length, take, Option, Some, IsErr, IsTrue, IfOk, OnOk, OnErr};
-ghost use Rattle.account_pictures.specs.declared.talk.Piece.{Piece};
+ghost use Rattle.account_pictures.specs.declared.talk.Piece.TheVariants as pieces;
 ghost use Rattle.mail_io.specs.Causes.{HasCause};
 ghost use Rattle.mail_io.specs.Talks.{AppendsPiece, SaysPrefix};
 ghost use Rattle.mail_io.specs.Memory.{next_count};
@@ -8,7 +8,7 @@ ghost use Rattle.mail_io.specs.Links.{LinkState, MustFail, failed, after_dial, a
 
 use crate::recording::Recording;
 use crate::script::Script;
-use crate::{Failed, Link, Words};
+use crate::{Failed, Link, Piece, Words};
 use std::alloc::{AllocError, Global};
 use std::marker::Model;
 
@@ -52,6 +52,13 @@ impl ScriptedLink {
             faults: 0,
             failing,
         })
+    }
+
+    /// The pieces of the talk so far.
+    pub fn talk(&self, alloc: Global) -> Result<Vec<Piece>, AllocError>
+        ensures { IfOk result (λ pieces. pieces.items ≡ self.now.recording.talk) }
+    {
+        self.recording.pieces(alloc)
     }
 
     /// Counts a call, and returns whether it fails whatever it is.
@@ -114,7 +121,7 @@ impl Link for ScriptedLink {
         ensures on_ok { IfOk result (λ n. self.new ≡ after_receive self.old n) }
         ensures on_err { OnErr result (self.new ≡ failed self.old self.old.recording) }
         ensures bound { IfOk result (λ n. n ≤ length room.new) }
-        ensures hears { IfOk result (λ n. AppendsPiece (Some self.old.recording.talk) (Some self.new.recording.talk) (Piece.Heard (take n room.new))) }
+        ensures hears { IfOk result (λ n. AppendsPiece (Some self.old.recording.talk) (Some self.new.recording.talk) (pieces.Heard (take n room.new))) }
         ensures cause { HasCause self.old.faults self.new.faults result }
     {
         let count = self.script.front().len().min(room.len());
