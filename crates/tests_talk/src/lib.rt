@@ -1,0 +1,5 @@
+//! Tests of talks with a mail server: of links, and of what the server told on them.
+#![tactic(auto)]
+
+#[cfg(test)]
+mod links;
