@@ -1,4 +1,6 @@
 pub mod Examples
+pub mod SubjectExamples
+pub mod SubjectLemmas
 pub mod FirstLine
 pub mod ItemLemmas
 pub mod WholeLines
