@@ -1,11 +1,10 @@
 //! Base subjects (RFC 5256 §2.1).
-ghost use Rattle.std.specs.Prelude.{◌≡◌, ◌<◌, ◌≤◌, ◌+◌, ◌-◌, IfOk, OnOk, IfSome, ℕ, MatchOption, ◌++◌, Bool, length, drop, false};
-ghost use Rattle.std.specs.Prelude.{reverse, codes, Some, None, true, zero};
+ghost use Rattle.std.specs.Prelude.{◌≡◌, ◌<◌, ◌≤◌, ◌+◌, ◌-◌, IfOk, OnOk, IfSome, MatchOption, ◌++◌, Bool, length, drop, false};
+ghost use Rattle.std.specs.Prelude.{reverse, Some, None, true};
 ghost use Rattle.std.specs.List.{position_or_len};
 ghost use Rattle.std.specs.Str.{str_eq_ignore_ascii_case};
-ghost use Rattle.std.specs.Str.Lossy.{utf8_lossy};
 ghost use Rattle.header_words.specs.Fields.{is_white};
-ghost use Rattle.header_words.specs.BaseSubject.{base, spaced_byte, is_bracket, closed_blob_len, before_colon_len, without_leader, without_trailer, turned, is_trailer, unwrapped, single_spaced, begins_with, spaces_len, blob_len, blobs_len, word_len, mark_len, marked_len, leader_len, spare_blob_len, without_front_from, without_front, back_len, without_back, trimmed, is_forward, inside_forward, base_of};
+ghost use Rattle.header_words.specs.BaseSubject.{base, spaced_byte, is_bracket, closed_blob_len, before_colon_len, without_leader, without_trailer, is_trailer, unwrapped, single_spaced, begins_with, spaces_len, blob_len, blobs_len, word_len, mark_len, marked_len, leader_len, spare_blob_len, without_front_from, without_front, back_len, without_back, trimmed, is_forward, inside_forward, base_of};
 
 use crate::decoding::read_lossily;
 use mail_values::Text;
@@ -331,7 +330,7 @@ fn unwrap_forwards(spaced: &[u8]) -> Part<'_>
 
 /// Returns the base subject of a decoded subject: without marks of replies and forwards, blobs in brackets and needless white space.
 pub fn base_subject(alloc: Global, subject: &str) -> Result<Base, AllocError>
-    ensures text { IfOk result (λ base. base.text ≡ utf8_lossy (base_of subject.now).text) }
+    ensures text { IfOk result (λ base. base.text ≡ (base_of subject.now).text) }
     ensures reply { IfOk result (λ base. base.reply ≡ (base_of subject.now).reply) }
 {
     let spaced = single_spaced(alloc, subject.as_bytes())?;
