@@ -1,4 +1,7 @@
 pub mod Examples
+pub mod SubjectExamples
+pub mod SubjectLemmas
+pub mod SubjectText
 pub mod FirstLine
 pub mod ItemLemmas
 pub mod WholeLines

@@ -18,6 +18,10 @@ pub record Header : Type 0 where
 abbrev pub is_blank : ℕ → Bool
 is_blank b = (b == 32) || (b == 9)
 
+-- white space of all kinds: the space, TAB, CR, LF
+abbrev pub is_white : ℕ → Bool
+is_white b = is_blank b || ((b == 10) || (b == 13))
+
 -- the bytes of a name: 0x21 to 0x7E; a colon ends it
 abbrev pub is_name_byte : ℕ → Bool
 is_name_byte b = nat_le 33 b && nat_le b 126

@@ -3,3 +3,5 @@ pub mod Fields
 pub mod Places
 pub mod EncodedWords
 pub mod Value
+pub mod MessageIds
+pub mod BaseSubject

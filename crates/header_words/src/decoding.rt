@@ -33,7 +33,7 @@ fn trim_ends(bytes: &mut Vec<u8>)
 }
 
 /// Reads bytes as UTF-8 lossily. Valid text, as nearly all mail has it, is not copied.
-fn read_lossily(alloc: Global, bytes: Vec<u8>) -> Result<String, AllocError>
+pub fn read_lossily(alloc: Global, bytes: Vec<u8>) -> Result<String, AllocError>
     ensures { IfOk result (λ text. string_bytes text ≡ utf8_lossy bytes.items) }
 {
     match String::from_utf8(bytes) {

@@ -14,6 +14,8 @@ mod references;
 #[cfg(test)]
 mod streams;
 #[cfg(test)]
+mod subjects;
+#[cfg(test)]
 mod trees;
 #[cfg(test)]
 mod values;
