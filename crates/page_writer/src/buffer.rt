@@ -122,7 +122,9 @@ impl PageBytes {
         }
         let before = self.tail.len();
         let written = spelling::add_start(&mut self.tail, name, attributes);
-        self.room = self.room.saturating_sub(self.tail.len().saturating_sub(before));
+        self.room = self
+            .room
+            .saturating_sub(self.tail.len().saturating_sub(before));
         written
     }
 
