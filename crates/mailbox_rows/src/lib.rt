@@ -1,7 +1,7 @@
-//! What a mail server told: its folders, and the rows of the folders that were selected.
+//! The rows of a folder: what a mail server told of its messages, by UID (RFC 9051, RFC 7162).
 //!
-//! A `View` is given each dial, each command and each response, in order. It shows the folders of the last LIST, and of the four folders
-//! selected last their messages, as the server told them (RFC 9051, RFC 7162).
+//! A `Mailbox` keeps the rows of one folder, up to a number of rows and of header bytes, with the folder's UIDVALIDITY and the MODSEQ up to
+//! which all changes were told.
 #![tactic(auto)]
 
 pub mod fault;
