@@ -1,0 +1,4 @@
+mod Examples
+pub mod Cuts
+pub mod ListLemmas
+pub mod QuotedLemmas
