@@ -1,0 +1,4 @@
+pub mod Events
+pub mod Fetched
+pub mod Selections
+pub mod View

@@ -1,0 +1,9 @@
+//! What a mail server told: its folders, and the rows of the folders that were selected.
+//!
+//! `specs/View.antt` defines what dials, commands and responses tell, in order (RFC 9051, RFC 7162).
+#![tactic(auto)]
+
+pub mod awaited;
+
+pub use awaited::Awaited;
+pub use mailbox_rows::{Fields, Folder, Mailbox, Row, ViewFault};
