@@ -1,9 +1,11 @@
 -- What a FETCH response tells (RFC 9051 §7.5.2).
-use Rattle.std.specs.Prelude.{ℕ, if◌then◌else◌, List, [], ◌∷◌, length, Option, Some, None}
+use Rattle.std.specs.Prelude.{◌≡◌, ℕ, if◌then◌else◌, List, [], ◌∷◌, length, Option, Some, None, Result, Ok, Err}
 use Rattle.std.specs.List.{fold}
 use Rattle.imap_grammar.specs.ItemData.{ItemData, Uid, Flags, Modseq, Internal, Size, Header, Body, OtherItem}
 use Rattle.mailbox_rows.specs.declared.row.Row.{Row}
 use Rattle.mailbox_rows.specs.declared.row.Fields.{Fields}
+use Rattle.mailbox_rows.specs.declared.fault.ViewFault.{ViewFault}
+use Rattle.mailbox_rows.specs.declared.fault.ViewFault.TheVariants.{TooMany, Memory}
 use Rattle.mailbox_rows.specs.Rows.{Rows, row_of, with_row, with_change, header_total}
 use Rattle.mailbox_rows.specs.Mailboxes.{MailboxState, with_rows, emptied, is_too_many}
 
@@ -29,14 +31,31 @@ with_item fields OtherItem = fields
 abbrev pub fields_of : List ItemData → Fields
 fields_of items = fold with_item no_fields items
 
--- the rows that a response with this UID would give: all that a row has makes or replaces one, less changes the one that is kept
-abbrev pub rows_after : Option Row → ℕ → Fields → Rows → Rows
-rows_after None uid fields rows = with_change uid fields rows
-rows_after (Some row) uid fields rows = with_row uid row rows
+-- all that a row has makes or replaces one. A folder that would have too many keeps none.
+abbrev pub with_whole : Row → ℕ → MailboxState → MailboxState
+with_whole row uid box = if is_too_many (with_row uid row box.rows) then emptied box else with_rows box (with_row uid row box.rows)
 
-abbrev pub rows_told : ℕ → Fields → Rows → Rows
-rows_told uid fields rows = rows_after (row_of fields) uid fields rows
+-- less changes the row that is kept
+abbrev pub with_told : Option Row → ℕ → Fields → MailboxState → MailboxState
+with_told None uid fields box = with_rows box (with_change uid fields box.rows)
+with_told (Some row) uid fields box = with_whole row uid box
 
--- a folder that would have too many keeps none
 abbrev pub with_fetch : ℕ → Fields → MailboxState → MailboxState
-with_fetch uid fields box = if is_too_many (rows_told uid fields box.rows) then emptied box else with_rows box (rows_told uid fields box.rows)
+with_fetch uid fields box = with_told (row_of fields) uid fields box
+
+-- the numbers of rows and header bytes that would be too many
+abbrev pub excess_of_rows : Rows → Option (ℕ × ℕ)
+excess_of_rows rows = if is_too_many rows then Some (length rows, header_total rows) else None
+
+abbrev pub excess_told : Option Row → ℕ → MailboxState → Option (ℕ × ℕ)
+excess_told None uid box = None
+excess_told (Some row) uid box = excess_of_rows (with_row uid row box.rows)
+
+abbrev pub excess_of : ℕ → Fields → MailboxState → Option (ℕ × ℕ)
+excess_of uid fields box = excess_told (row_of fields) uid box
+
+-- a FETCH of one message is applied to its folder
+abbrev pub AppliesFetch : MailboxState → ℕ → Fields → Result Unit ViewFault → MailboxState → Type 0
+AppliesFetch old uid fields (Ok u) new = (excess_of uid fields old ≡ None) × (new ≡ with_fetch uid fields old)
+AppliesFetch old uid fields (Err (TooMany count bytes)) new = (excess_of uid fields old ≡ Some (count, bytes)) × (new ≡ with_fetch uid fields old)
+AppliesFetch old uid fields (Err Memory) new = new ≡ old

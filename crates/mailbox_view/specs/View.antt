@@ -1,5 +1,5 @@
 -- What dials, commands and responses tell, in order (RFC 9051, RFC 7162).
-use Rattle.std.specs.Prelude.{ℕ, ◌+◌, ◌-◌, ◌*◌, ◌==◌, max, Bool, true, false, not, ◌||◌, ◌&&◌, if◌then◌else◌, List, [], ◌∷◌, ◌++◌, length, codes, Option, Some, None}
+use Rattle.std.specs.Prelude.{ℕ, ◌+◌, ◌-◌, ◌*◌, ◌==◌, max, Bool, true, false, not, ◌||◌, ◌&&◌, if◌then◌else◌, List, [], ◌∷◌, ◌++◌, codes, Option, Some, None}
 use Rattle.mail_values.specs.Ascii.{digit_zero, is_digit}
 use Rattle.std.specs.List.{fold, list_any, list_all}
 use Rattle.std.specs.Option.{unwrap_or}
@@ -15,11 +15,11 @@ use Rattle.imap_grammar.specs.Response.{ResponseData}
 use Rattle.imap_grammar.specs.Response.ResponseData.{Continue, Tagged, State, Capability, Enabled, Mailbox, Exists, Expunge, Fetch, Vanished, Esearch, Other}
 use Rattle.mailbox_rows.specs.declared.row.Folder.{Folder}
 use Rattle.mailbox_rows.specs.declared.row.Fields.{Fields}
-use Rattle.mailbox_rows.specs.Rows.{without, header_total}
-use Rattle.mailbox_rows.specs.Mailboxes.{MailboxState, with_rows, emptied, renewed, raised, is_too_many}
+use Rattle.mailbox_rows.specs.Rows.{without}
+use Rattle.mailbox_rows.specs.Mailboxes.{MailboxState, with_rows, emptied, renewed, raised}
 use Rattle.mailbox_view.specs.declared.awaited.Awaited.{Awaited}
 use Rattle.mailbox_view.specs.declared.awaited.Awaited.TheVariants as awaits
-use Rattle.mailbox_view.specs.Fetched.{fields_of, rows_told, with_fetch}
+use Rattle.mailbox_view.specs.Fetched.{fields_of, with_fetch, excess_of}
 use Rattle.mailbox_view.specs.Selections.{Selection, nothing_selected, muted, entered, opened, with_highest, with_validity, with_no_modseq, moved, selecting, with_concerned, concerned_box}
 
 -- what the server can do
@@ -175,10 +175,10 @@ after_list awaited folder v = v
 
 -- ---- FETCH
 
--- the numbers that are too many for a folder
-abbrev pub excess_of : ℕ → Fields → Option MailboxState → Option (ℕ × ℕ)
-excess_of uid fields None = None
-excess_of uid fields (Some box) = if is_too_many (rows_told uid fields box.rows) then Some (length (rows_told uid fields box.rows), header_total (rows_told uid fields box.rows)) else None
+-- the numbers that are too many for the folder that is concerned
+abbrev pub excess_in : ℕ → Fields → Option MailboxState → Option (ℕ × ℕ)
+excess_in uid fields None = None
+excess_in uid fields (Some box) = excess_of uid fields box
 
 abbrev pub with_modseq : ℕ → ViewState → ViewState
 with_modseq modseq v = record { number = v.number; awaited = v.awaited; soon = v.soon; modseq = max v.modseq modseq; folders = v.folders; listed = v.listed; boxes = v.boxes; selection = v.selection; abilities = v.abilities }
@@ -190,7 +190,7 @@ after_excess (Some numbers) v = with_selection v (muted v.selection)
 
 abbrev pub after_fetch : Option ℕ → Fields → ViewState → ViewState
 after_fetch None fields v = v
-after_fetch (Some uid) fields v = after_excess (excess_of uid fields (concerned_box v.selection.concerned v.boxes)) (in_box (with_fetch uid fields) (with_modseq (unwrap_or fields.modseq 0) v))
+after_fetch (Some uid) fields v = after_excess (excess_in uid fields (concerned_box v.selection.concerned v.boxes)) (in_box (with_fetch uid fields) (with_modseq (unwrap_or fields.modseq 0) v))
 
 -- ---- all responses
 
@@ -220,7 +220,7 @@ after_response response v = told_by v.awaited response v
 abbrev pub excess_by : Awaited → Option ℕ → Fields → ViewState → Option (ℕ × ℕ)
 excess_by awaits.Nothing uid fields v = None
 excess_by awaited None fields v = None
-excess_by awaited (Some uid) fields v = excess_of uid fields (concerned_box v.selection.concerned v.boxes)
+excess_by awaited (Some uid) fields v = excess_in uid fields (concerned_box v.selection.concerned v.boxes)
 
 abbrev pub excess : ResponseData → ViewState → Option (ℕ × ℕ)
 excess (Fetch n items) v = excess_by v.awaited (fields_of items).uid (fields_of items) v

@@ -4,6 +4,7 @@
 #![tactic(auto)]
 
 pub mod awaited;
+pub mod fetched;
 
 pub use awaited::Awaited;
 pub use mailbox_rows::{Fields, Folder, Mailbox, Row, ViewFault};
