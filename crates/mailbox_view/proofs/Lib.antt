@@ -1,1 +1,2 @@
 mod ViewExamples
+mod ResultExamples

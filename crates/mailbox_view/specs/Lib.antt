@@ -1,4 +1,5 @@
 pub mod Events
 pub mod Fetched
+pub mod Results
 pub mod Selections
 pub mod View
