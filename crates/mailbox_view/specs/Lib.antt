@@ -1,5 +1,6 @@
 pub mod Events
 pub mod Fetched
+pub mod Fetches
 pub mod Results
 pub mod Selections
 pub mod View

@@ -2,21 +2,7 @@
 use Rattle.std.specs.Prelude.{ℕ, zero, suc, max, Bool, true, false, if◌then◌else◌, List, [], ◌∷◌, take, Option, Some, None}
 use Rattle.std.specs.Str.{bytes_eq}
 use Rattle.mailbox_rows.specs.Mailboxes.{MailboxState, new_mailbox}
-
-pub record Selection : Type 0 where
-  -- the first of the folders is selected
-  pub is_selected : Bool
-  -- the place of the folder that responses concern
-  pub concerned : Option ℕ
-  -- in a SELECT that leaves a folder, before CLOSED
-  pub is_leaving : Bool
-  -- the last SELECT of this dial was answered OK
-  pub was_ok : Bool
-  -- the greatest HIGHESTMODSEQ told since the selection
-  pub highest : ℕ
-  -- since the selection a UIDVALIDITY was told; NOMODSEQ was told
-  pub has_validity : Bool
-  pub has_no_modseq : Bool
+use Rattle.mailbox_view.specs.declared.selection.Selection.{Selection}
 
 abbrev pub nothing_selected : Selection
 nothing_selected = record { is_selected = false; concerned = None; is_leaving = false; was_ok = false; highest = 0; has_validity = false; has_no_modseq = false }
@@ -72,14 +58,14 @@ abbrev pub is_first : List ℕ → List MailboxState → Bool
 is_first name [] = false
 is_first name (box ∷ boxes) = bytes_eq box.name name
 
--- where the folder that was selected is after another, or the same again, is moved to the front
-abbrev pub left_at : List ℕ → List MailboxState → Selection → Option ℕ
-left_at name boxes s = if s.is_selected then (if is_first name boxes then Some 0 else Some 1) else None
+-- the place of the folder that was selected, after another or the same again was moved to the front
+abbrev pub left_at : Bool → Selection → Option ℕ
+left_at same s = if s.is_selected then (if same then Some 0 else Some 1) else None
 
--- a SELECT leaves a folder if the last one of this dial was answered OK
-abbrev pub selecting : List ℕ → List MailboxState → Selection → Selection
-selecting name boxes s =
-    record { is_selected = true; concerned = if s.was_ok then left_at name boxes s else Some 0; is_leaving = s.was_ok; was_ok = false; highest = 0; has_validity = false; has_no_modseq = false }
+-- a SELECT leaves a folder if the last one of this dial was answered OK. It may select the same again.
+abbrev pub selecting : Bool → Selection → Selection
+selecting same s =
+    record { is_selected = true; concerned = if s.was_ok then left_at same s else Some 0; is_leaving = s.was_ok; was_ok = false; highest = 0; has_validity = false; has_no_modseq = false }
 
 -- one of the folders is changed
 abbrev pub with_nth : ℕ → (MailboxState → MailboxState) → List MailboxState → List MailboxState

@@ -17,18 +17,13 @@ use Rattle.mailbox_rows.specs.declared.row.Folder.{Folder}
 use Rattle.mailbox_rows.specs.declared.row.Fields.{Fields}
 use Rattle.mailbox_rows.specs.Rows.{without}
 use Rattle.mailbox_rows.specs.Mailboxes.{MailboxState, with_rows, emptied, renewed, raised}
+use Rattle.mailbox_view.specs.declared.abilities.Abilities.{Abilities}
 use Rattle.mailbox_view.specs.declared.awaited.Awaited.{Awaited}
 use Rattle.mailbox_view.specs.declared.awaited.Awaited.TheVariants as awaits
-use Rattle.mailbox_view.specs.Fetched.{fields_of, with_fetch, excess_of}
-use Rattle.mailbox_view.specs.Selections.{Selection, nothing_selected, muted, entered, opened, with_highest, with_validity, with_no_modseq, moved, selecting, with_concerned, concerned_box}
-
--- what the server can do
-pub record Abilities : Type 0 where
-  -- the CAPABILITY responses of the last Capability name IMAP4rev2; they name QRESYNC
-  pub names_rev2 : Bool
-  pub names_qresync : Bool
-  -- the ENABLED responses of the last Enable name QRESYNC
-  pub enables_qresync : Bool
+use Rattle.mailbox_view.specs.Fetched.{fields_of, with_fetch}
+use Rattle.mailbox_view.specs.Fetches.{excess_in}
+use Rattle.mailbox_view.specs.declared.selection.Selection.{Selection}
+use Rattle.mailbox_view.specs.Selections.{nothing_selected, muted, entered, opened, with_highest, with_validity, with_no_modseq, moved, selecting, with_concerned, concerned_box, is_first}
 
 pub record ViewState : Type 0 where
   -- the number of the last command of this dial
@@ -86,7 +81,7 @@ begun v = record { number = v.number + 1; awaited = awaits.Other; soon = []; mod
 -- the selection of a folder begins: whatever the answer will be, the folder is among the four
 abbrev pub with_select : List ℕ → ViewState → ViewState
 with_select name v =
-    record { number = v.number; awaited = awaits.Select; soon = []; modseq = v.modseq; folders = v.folders; listed = v.listed; boxes = moved name v.boxes; selection = selecting name v.boxes v.selection; abilities = v.abilities }
+    record { number = v.number; awaited = awaits.Select; soon = []; modseq = v.modseq; folders = v.folders; listed = v.listed; boxes = moved name v.boxes; selection = selecting (is_first name v.boxes) v.selection; abilities = v.abilities }
 
 -- a folder that is a literal is named after the server's `+`
 abbrev pub with_select_soon : List ℕ → ViewState → ViewState
@@ -174,11 +169,6 @@ after_list awaits.List folder v =
 after_list awaited folder v = v
 
 -- ---- FETCH
-
--- the numbers that are too many for the folder that is concerned
-abbrev pub excess_in : ℕ → Fields → Option MailboxState → Option (ℕ × ℕ)
-excess_in uid fields None = None
-excess_in uid fields (Some box) = excess_of uid fields box
 
 abbrev pub with_modseq : ℕ → ViewState → ViewState
 with_modseq modseq v = record { number = v.number; awaited = v.awaited; soon = v.soon; modseq = max v.modseq modseq; folders = v.folders; listed = v.listed; boxes = v.boxes; selection = v.selection; abilities = v.abilities }

@@ -1,9 +1,9 @@
 //! What a FETCH response tells.
-ghost use Rattle.std.specs.Prelude.{◌≡◌, ◌++◌, IfOk, OnOk};
+ghost use Rattle.std.specs.Prelude.{◌≡◌, ◌++◌, IfOk, OnOk, is_some};
 ghost use Rattle.imap_values.specs.Slices.{slices_of};
 ghost use Rattle.imap_values.specs.Lents.{bytes_or_nil};
 ghost use Rattle.imap_grammar.specs.ItemData.{item_data_of};
-ghost use Rattle.mailbox_rows.specs.Rows.{row_from};
+ghost use Rattle.mailbox_rows.specs.Rows.{row_of};
 ghost use Rattle.mailbox_view.specs.Fetched.{with_item, fields_of, header_text, AppliesFetch};
 
 use imap_grammar::{Item, Items};
@@ -69,4 +69,33 @@ pub fn read_fields(alloc: Global, items: &Items) -> Result<Fields, Memory>
         rest = more;
     }
     Ok(fields)
+}
+
+/// Whether a response told all that a row has.
+fn is_whole(fields: &Fields) -> bool
+    ensures { result ≡ is_some (row_of fields.now) }
+{
+    fields.flags.is_some() && fields.modseq.is_some() && fields.internal.is_some() && fields.size.is_some() && fields.header.is_some()
+}
+
+/// The row of a message, if all that it has was told.
+fn into_row(fields: Fields) -> Option<Row>
+    ensures { result ≡ row_of fields }
+{
+    let Fields { flags, modseq, internal, size, header, .. } = fields;
+    Some(Row { flags: flags?, modseq: modseq?, internal: internal?, size: size?, header: header? })
+}
+
+/// Applies what was told of a message to its folder.
+pub fn apply_fetch(folder: &mut Mailbox, uid: u32, fields: Fields) -> Result<(), ViewFault>
+    ensures { AppliesFetch folder.old uid fields result folder.new }
+{
+    if !is_whole(&fields) {
+        folder.change(uid, fields);
+        return Ok(());
+    }
+    match into_row(fields) {
+        Some(row) => folder.put(uid, row),
+        None => Ok(()),
+    }
 }

@@ -3,8 +3,14 @@
 //! `specs/View.antt` defines what dials, commands and responses tell, in order (RFC 9051, RFC 7162).
 #![tactic(auto)]
 
+pub mod abilities;
 pub mod awaited;
 pub mod fetched;
+pub mod recent;
+pub mod selection;
+pub mod tags;
 
+pub use abilities::Abilities;
 pub use awaited::Awaited;
 pub use mailbox_rows::{Fields, Folder, Mailbox, Row, ViewFault};
+pub use selection::Selection;
