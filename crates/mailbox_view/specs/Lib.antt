@@ -1,3 +1,4 @@
+pub mod Applied
 pub mod Events
 pub mod Fetched
 pub mod Fetches

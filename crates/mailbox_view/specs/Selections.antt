@@ -1,5 +1,5 @@
 -- Which folder responses concern (RFC 9051 §6.3.2, RFC 7162 §3.2.11).
-use Rattle.std.specs.Prelude.{ℕ, zero, suc, max, Bool, true, false, if◌then◌else◌, List, [], ◌∷◌, take, Option, Some, None}
+use Rattle.std.specs.Prelude.{ℕ, zero, suc, max, Bool, true, false, not, if◌then◌else◌, List, [], ◌∷◌, take, Option, Some, None}
 use Rattle.std.specs.Str.{bytes_eq}
 use Rattle.mailbox_rows.specs.Mailboxes.{MailboxState, new_mailbox}
 use Rattle.mailbox_view.specs.declared.selection.Selection.{Selection}
@@ -39,6 +39,9 @@ with_no_modseq s =
 
 abbrev pub folder_limit : ℕ
 folder_limit = 4
+
+abbrev pub is_other : List ℕ → MailboxState → Bool
+is_other name box = not (bytes_eq box.name name)
 
 -- the folder of a name, which may be new
 abbrev pub found : List ℕ → List MailboxState → MailboxState
@@ -85,3 +88,7 @@ nth_box (suc n) (box ∷ boxes) = nth_box n boxes
 abbrev pub concerned_box : Option ℕ → List MailboxState → Option MailboxState
 concerned_box None boxes = None
 concerned_box (Some n) boxes = nth_box n boxes
+
+abbrev pub box_named : List ℕ → List MailboxState → Option MailboxState
+box_named name [] = None
+box_named name (box ∷ boxes) = if bytes_eq box.name name then Some box else box_named name boxes

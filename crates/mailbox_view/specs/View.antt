@@ -23,7 +23,7 @@ use Rattle.mailbox_view.specs.declared.awaited.Awaited.TheVariants as awaits
 use Rattle.mailbox_view.specs.Fetched.{fields_of, with_fetch}
 use Rattle.mailbox_view.specs.Fetches.{excess_in}
 use Rattle.mailbox_view.specs.declared.selection.Selection.{Selection}
-use Rattle.mailbox_view.specs.Selections.{nothing_selected, muted, entered, opened, with_highest, with_validity, with_no_modseq, moved, selecting, with_concerned, concerned_box, is_first}
+use Rattle.mailbox_view.specs.Selections.{nothing_selected, muted, entered, opened, with_highest, with_validity, with_no_modseq, moved, selecting, with_concerned, concerned_box, nth_box, is_first}
 
 pub record ViewState : Type 0 where
   -- the number of the last command of this dial
@@ -46,6 +46,12 @@ no_abilities = record { names_rev2 = false; names_qresync = false; enables_qresy
 
 abbrev pub empty_view : ViewState
 empty_view = record { number = 0; awaited = awaits.Nothing; soon = []; modseq = 0; folders = []; listed = []; boxes = []; selection = nothing_selected; abilities = no_abilities }
+
+abbrev pub without_names : Abilities → Abilities
+without_names a = record { names_rev2 = false; names_qresync = false; enables_qresync = a.enables_qresync }
+
+abbrev pub without_enabled : Abilities → Abilities
+without_enabled a = record { names_rev2 = a.names_rev2; names_qresync = a.names_qresync; enables_qresync = false }
 
 -- ---- parts that change
 
@@ -88,12 +94,19 @@ abbrev pub with_select_soon : List ℕ → ViewState → ViewState
 with_select_soon name v =
     record { number = v.number; awaited = awaits.SelectSoon; soon = name; modseq = v.modseq; folders = v.folders; listed = v.listed; boxes = v.boxes; selection = v.selection; abilities = v.abilities }
 
+abbrev pub with_quotable : Bool → List ℕ → ViewState → ViewState
+with_quotable quotable name v = if quotable then with_select name v else with_select_soon name v
+
+-- only a FETCH of all rows raises the mark
+abbrev pub awaited_of_new : ℕ → Awaited
+awaited_of_new from = if from == 1 then awaits.Changes else awaits.Other
+
 abbrev pub with_command : Command → ViewState → ViewState
-with_command command.Capability v = with_abilities (with_awaited v awaits.Capability) (record { names_rev2 = false; names_qresync = false; enables_qresync = v.abilities.enables_qresync })
-with_command command.Enable v = with_abilities (with_awaited v awaits.Enable) (record { names_rev2 = v.abilities.names_rev2; names_qresync = v.abilities.names_qresync; enables_qresync = false })
+with_command command.Capability v = with_abilities (with_awaited v awaits.Capability) (without_names v.abilities)
+with_command command.Enable v = with_abilities (with_awaited v awaits.Enable) (without_enabled v.abilities)
 with_command command.List v = with_awaited v awaits.List
-with_command (command.Select folder known) v = if is_quotable folder then with_select folder v else with_select_soon folder v
-with_command (command.FetchNew from) v = with_awaited v (if from == 1 then awaits.Changes else awaits.Other)
+with_command (command.Select folder known) v = with_quotable (is_quotable folder) folder v
+with_command (command.FetchNew from) v = with_awaited v (awaited_of_new from)
 with_command (command.FetchChanged mark) v = with_awaited v awaits.Changes
 with_command other v = v
 
@@ -109,8 +122,7 @@ after_plus awaited v = v
 
 -- codes, of tagged and untagged status responses alike
 abbrev pub after_closed : Bool → ViewState → ViewState
-after_closed true v = with_selection v (entered v.selection)
-after_closed false v = v
+after_closed leaving v = if leaving then with_selection v (entered v.selection) else v
 
 abbrev pub after_code : Option Code → ViewState → ViewState
 after_code None v = v
@@ -139,8 +151,11 @@ after_answer words.Ok v = with_awaited (after_ok v.awaited v) awaits.Nothing
 after_answer word v = with_awaited (after_no v.awaited v) awaits.Nothing
 
 -- the tag of a command is `A` and its number, without leading zeros; an answer with another tag tells nothing
+abbrev pub with_digit : ℕ → ℕ → ℕ
+with_digit number digit = 10 * number + (digit - digit_zero)
+
 abbrev pub numeral_value : List ℕ → ℕ
-numeral_value digits = fold (λ n c. 10 * n + (c - digit_zero)) 0 digits
+numeral_value digits = fold with_digit 0 digits
 
 abbrev pub is_numeral : List ℕ → Bool
 is_numeral [] = false
@@ -150,17 +165,24 @@ abbrev pub is_tag : List ℕ → ℕ → Bool
 is_tag [] number = false
 is_tag (letter ∷ digits) number = letter == 65 && (is_numeral digits && numeral_value digits == number)
 
+abbrev pub after_tagged : Bool → Word → Option Code → ViewState → ViewState
+after_tagged own word code v = if own then after_answer word (after_code code v) else v
+
 abbrev pub has_word : List ℕ → List (List ℕ) → Bool
 has_word word names = list_any (eq_ignore_case word) names
 
+abbrev pub with_names : List (List ℕ) → Abilities → Abilities
+with_names names a = record { names_rev2 = has_word (codes "imap4rev2") names || a.names_rev2; names_qresync = has_word (codes "qresync") names || a.names_qresync; enables_qresync = a.enables_qresync }
+
+abbrev pub with_enabled : List (List ℕ) → Abilities → Abilities
+with_enabled names a = record { names_rev2 = a.names_rev2; names_qresync = a.names_qresync; enables_qresync = has_word (codes "qresync") names || a.enables_qresync }
+
 abbrev pub after_capability : Awaited → List (List ℕ) → ViewState → ViewState
-after_capability awaits.Capability names v =
-    with_abilities v (record { names_rev2 = v.abilities.names_rev2 || has_word (codes "imap4rev2") names; names_qresync = v.abilities.names_qresync || has_word (codes "qresync") names; enables_qresync = v.abilities.enables_qresync })
+after_capability awaits.Capability names v = with_abilities v (with_names names v.abilities)
 after_capability awaited names v = v
 
 abbrev pub after_enabled : Awaited → List (List ℕ) → ViewState → ViewState
-after_enabled awaits.Enable names v =
-    with_abilities v (record { names_rev2 = v.abilities.names_rev2; names_qresync = v.abilities.names_qresync; enables_qresync = v.abilities.enables_qresync || has_word (codes "qresync") names })
+after_enabled awaits.Enable names v = with_abilities v (with_enabled names v.abilities)
 after_enabled awaited names v = v
 
 abbrev pub after_list : Awaited → Folder → ViewState → ViewState
@@ -178,15 +200,18 @@ abbrev pub after_excess : Option (ℕ × ℕ) → ViewState → ViewState
 after_excess None v = v
 after_excess (Some numbers) v = with_selection v (muted v.selection)
 
+abbrev pub after_fetched : ℕ → Fields → ViewState → ViewState
+after_fetched uid fields v = after_excess (excess_in uid fields (concerned_box v.selection.concerned v.boxes)) (in_box (with_fetch uid fields) v)
+
 abbrev pub after_fetch : Option ℕ → Fields → ViewState → ViewState
 after_fetch None fields v = v
-after_fetch (Some uid) fields v = after_excess (excess_in uid fields (concerned_box v.selection.concerned v.boxes)) (in_box (with_fetch uid fields) (with_modseq (unwrap_or fields.modseq 0) v))
+after_fetch (Some uid) fields v = after_fetched uid fields (with_modseq (unwrap_or fields.modseq 0) v)
 
 -- ---- all responses
 
 abbrev pub told : ResponseData → ViewState → ViewState
 told (Continue text) v = after_plus v.awaited v
-told (Tagged tag word code text) v = if is_tag tag v.number then after_answer word (after_code code v) else v
+told (Tagged tag word code text) v = after_tagged (is_tag tag v.number) word code v
 told (State word code text) v = after_code code v
 told (Capability names) v = after_capability v.awaited names v
 told (Enabled names) v = after_enabled v.awaited names v
@@ -199,22 +224,29 @@ told (Esearch tag uids) v = v
 told Other v = v
 
 -- a response tells something only while a command awaits its answer
-abbrev pub told_by : Awaited → ResponseData → ViewState → ViewState
-told_by awaits.Nothing response v = v
-told_by awaited response v = told response v
+abbrev pub is_awaiting : Awaited → Bool
+is_awaiting awaits.Nothing = false
+is_awaiting awaited = true
 
 abbrev pub after_response : ResponseData → ViewState → ViewState
-after_response response v = told_by v.awaited response v
+after_response response v = if is_awaiting v.awaited then told response v else v
 
 -- the numbers of rows and of header bytes that a response would give its folder, if they are too many
-abbrev pub excess_by : Awaited → Option ℕ → Fields → ViewState → Option (ℕ × ℕ)
-excess_by awaits.Nothing uid fields v = None
-excess_by awaited None fields v = None
-excess_by awaited (Some uid) fields v = excess_in uid fields (concerned_box v.selection.concerned v.boxes)
+abbrev pub excess_fetched : Option ℕ → Fields → ViewState → Option (ℕ × ℕ)
+excess_fetched None fields v = None
+excess_fetched (Some uid) fields v = excess_in uid fields (concerned_box v.selection.concerned v.boxes)
+
+abbrev pub excess_told : ResponseData → ViewState → Option (ℕ × ℕ)
+excess_told (Fetch n items) v = excess_fetched (fields_of items).uid (fields_of items) v
+excess_told response v = None
 
 abbrev pub excess : ResponseData → ViewState → Option (ℕ × ℕ)
-excess (Fetch n items) v = excess_by v.awaited (fields_of items).uid (fields_of items) v
-excess response v = None
+excess response v = if is_awaiting v.awaited then excess_told response v else None
+
+-- ---- what is shown
+
+abbrev pub selected_box : ViewState → Option MailboxState
+selected_box v = if v.selection.is_selected then nth_box 0 v.boxes else None
 
 -- ---- what a server lacks, by its answers
 

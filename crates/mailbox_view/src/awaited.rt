@@ -1,7 +1,9 @@
 //! What the answer to a command will mean.
+ghost use Rattle.std.specs.Prelude.{◌≡◌};
+ghost use Rattle.mailbox_view.specs.View.{is_awaiting};
 
 /// The command whose tagged answer is awaited, as far as the answer tells something.
-#[derive(Clone, Copy, Debug, PartialEq, Eq)]
+#[derive(Clone, Copy)]
 pub enum Awaited {
     /// No command.
     Nothing,
@@ -15,4 +17,16 @@ pub enum Awaited {
     Changes,
     /// Any other command.
     Other,
+}
+
+impl Awaited {
+    /// Whether any command awaits its answer.
+    pub fn is_awaiting(self) -> bool
+        ensures { result ≡ is_awaiting self }
+    {
+        match self {
+            Awaited::Nothing => false,
+            _ => true,
+        }
+    }
 }

@@ -75,15 +75,32 @@ pub fn read_fields(alloc: Global, items: &Items) -> Result<Fields, Memory>
 fn is_whole(fields: &Fields) -> bool
     ensures { result ≡ is_some (row_of fields.now) }
 {
-    fields.flags.is_some() && fields.modseq.is_some() && fields.internal.is_some() && fields.size.is_some() && fields.header.is_some()
+    fields.flags.is_some()
+        && fields.modseq.is_some()
+        && fields.internal.is_some()
+        && fields.size.is_some()
+        && fields.header.is_some()
 }
 
 /// The row of a message, if all that it has was told.
 fn into_row(fields: Fields) -> Option<Row>
     ensures { result ≡ row_of fields }
 {
-    let Fields { flags, modseq, internal, size, header, .. } = fields;
-    Some(Row { flags: flags?, modseq: modseq?, internal: internal?, size: size?, header: header? })
+    let Fields {
+        flags,
+        modseq,
+        internal,
+        size,
+        header,
+        ..
+    } = fields;
+    Some(Row {
+        flags: flags?,
+        modseq: modseq?,
+        internal: internal?,
+        size: size?,
+        header: header?,
+    })
 }
 
 /// Applies what was told of a message to its folder.

@@ -9,8 +9,10 @@ pub mod fetched;
 pub mod recent;
 pub mod selection;
 pub mod tags;
+pub mod view;
 
 pub use abilities::Abilities;
 pub use awaited::Awaited;
 pub use mailbox_rows::{Fields, Folder, Mailbox, Row, ViewFault};
 pub use selection::Selection;
+pub use view::View;

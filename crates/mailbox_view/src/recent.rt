@@ -1,11 +1,11 @@
 //! The folders that were selected last, of which rows are kept.
-ghost use Rattle.std.specs.Prelude.{◌≡◌, ◌≤◌, not, length, IfOk, OnOk};
+ghost use Rattle.std.specs.Prelude.{◌≡◌, ◌≤◌, length, IfOk, OnOk, IfSome, IfNone, Some, None};
 ghost use Rattle.std.specs.List.{prefix_len};
 ghost use Rattle.std.specs.Str.{bytes_eq};
 ghost use Rattle.imap_commands.specs.UidSets.{contains_uid};
 ghost use Rattle.mailbox_rows.specs.Rows.{without};
 ghost use Rattle.mailbox_rows.specs.Mailboxes.{MailboxState, with_rows, emptied, renewed, raised};
-ghost use Rattle.mailbox_view.specs.Selections.{found, others, moved, is_first, with_concerned};
+ghost use Rattle.mailbox_view.specs.Selections.{found, others, moved, is_first, is_other, nth_box, box_named, with_concerned};
 ghost use Rattle.mailbox_view.specs.Fetches.{AppliesFetchAt};
 
 use crate::fetched::apply_fetch;
@@ -25,7 +25,7 @@ fn has_name(folder: &Mailbox, name: &[u8]) -> bool
 
 /// The place of the folder with a name, or the number of folders.
 fn place_of(folders: &[Mailbox], name: &[u8]) -> usize
-    ensures place { result ≡ prefix_len (λ folder. not (bytes_eq folder.name name.now)) folders.now }
+    ensures place { result ≡ prefix_len (is_other name.now) folders.now }
     ensures within { result ≤ length folders.now }
 {
     for (i, folder) in folders.iter().enumerate() {
@@ -44,6 +44,32 @@ pub fn is_first(folders: &[Mailbox], name: &[u8]) -> bool
         [folder, ..] => has_name(folder, name),
         [] => false,
     }
+}
+
+/// The folder that was selected last.
+pub fn first(folders: &[Mailbox]) -> Option<&Mailbox>
+    ensures some { IfSome result (λ folder. nth_box 0 folders.now ≡ Some folder.now) }
+    ensures none { IfNone result (nth_box 0 folders.now ≡ None) }
+{
+    match folders {
+        [folder, ..] => Some(folder),
+        [] => None,
+    }
+}
+
+/// The folder with a name.
+pub fn find<'a, 'b>(folders: &'a [Mailbox], name: &'b [u8]) -> Option<&'a Mailbox>
+    ensures some { IfSome result (λ folder. box_named name.now folders.now ≡ Some folder.now) }
+    ensures none { IfNone result (box_named name.now folders.now ≡ None) }
+{
+    let mut rest = folders;
+    while let [folder, more @ ..] = rest {
+        if has_name(folder, name) {
+            return Some(folder);
+        }
+        rest = more;
+    }
+    None
 }
 
 /// Takes the folder with a name out, or makes one.
@@ -70,12 +96,67 @@ pub fn move_to_front(alloc: Global, folders: &mut Vec<Mailbox>, name: &[u8]) -> 
 }
 
 /// Sets the UIDVALIDITY of the folder at a place.
+#[tactic(auto, using(crate::proofs::FolderLemmas::set_at, crate::proofs::FolderLemmas::past_at))]
 pub fn set_validity_at(folders: &mut Vec<Mailbox>, place: Option<usize>, validity: u32)
     ensures { folders.new.items ≡ with_concerned place (renewed validity) folders.old.items }
 {
     if let Some(n) = place {
-        if let Some(folder) = folders.get_mut(n) {
-            folder.set_validity(validity);
+        if n < folders.len() {
+            folders[n].set_validity(validity);
         }
     }
+}
+
+/// Raises the mark of the folder at a place.
+#[tactic(auto, using(crate::proofs::FolderLemmas::set_at, crate::proofs::FolderLemmas::past_at))]
+pub fn raise_mark_at(folders: &mut Vec<Mailbox>, place: Option<usize>, mark: u64)
+    ensures { folders.new.items ≡ with_concerned place (raised mark) folders.old.items }
+{
+    if let Some(n) = place {
+        if n < folders.len() {
+            folders[n].raise_mark(mark);
+        }
+    }
+}
+
+/// Forgets the rows of the folder at a place.
+#[tactic(auto, using(crate::proofs::FolderLemmas::set_at, crate::proofs::FolderLemmas::past_at))]
+pub fn forget_at(folders: &mut Vec<Mailbox>, place: Option<usize>)
+    ensures { folders.new.items ≡ with_concerned place emptied folders.old.items }
+{
+    if let Some(n) = place {
+        if n < folders.len() {
+            folders[n].forget();
+        }
+    }
+}
+
+/// Removes the rows whose UIDs are in a set from the folder at a place.
+#[tactic(auto, using(crate::proofs::FolderLemmas::set_at, crate::proofs::FolderLemmas::past_at))]
+pub fn vanish_at(folders: &mut Vec<Mailbox>, place: Option<usize>, set: &UidSet)
+    ensures { folders.new.items ≡ with_concerned place (λ box. with_rows box (without (λ uid. contains_uid uid set.now) box.rows)) folders.old.items }
+{
+    if let Some(n) = place {
+        if n < folders.len() {
+            folders[n].vanish(set);
+        }
+    }
+}
+
+/// Applies what was told of a message to the folder at a place.
+#[tactic(auto, using(crate::proofs::FolderLemmas::fetch_at, crate::proofs::FolderLemmas::fetch_past))]
+pub fn apply_fetch_at(
+    folders: &mut Vec<Mailbox>,
+    place: Option<usize>,
+    uid: u32,
+    fields: Fields,
+) -> Result<(), ViewFault>
+    ensures { AppliesFetchAt folders.old.items place uid fields result folders.new.items }
+{
+    if let Some(n) = place {
+        if n < folders.len() {
+            return apply_fetch(&mut folders[n], uid, fields);
+        }
+    }
+    Ok(())
 }

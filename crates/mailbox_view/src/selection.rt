@@ -3,7 +3,7 @@ ghost use Rattle.std.specs.Prelude.{◌≡◌};
 ghost use Rattle.mailbox_view.specs.Selections.{nothing_selected, muted, entered, opened, with_highest, with_validity, with_no_modseq, selecting, first_if, left_at};
 
 /// Which of the folders is selected, and which of them responses concern (RFC 9051 §6.3.2, RFC 7162 §3.2.11).
-#[derive(Clone, Copy, Debug, PartialEq, Eq)]
+#[derive(Clone, Copy)]
 pub struct Selection {
     /// The first of the folders is selected.
     pub is_selected: bool,

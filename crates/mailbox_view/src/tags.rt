@@ -1,5 +1,6 @@
-//! Tags of commands.
+//! Tags of commands, and their texts.
 ghost use Rattle.std.specs.Prelude.{◌≡◌, ◌&&◌, ◌==◌};
+ghost use Rattle.imap_commands.specs.Pieces.{is_plain, is_quotable};
 ghost use Rattle.std.specs.List.{list_all};
 ghost use Rattle.mail_values.specs.Ascii.{is_digit};
 ghost use Rattle.mailbox_view.specs.View.{is_tag, is_numeral, numeral_value};
@@ -25,21 +26,34 @@ fn is_numeral_of(digits: &[u8], number: u32) -> bool
 }
 
 /// Whether some bytes are digits of a number, which may have leading zeros.
+#[tactic(auto, using(crate::proofs::TagLemmas::too_great))]
 fn has_value(digits: &[u8], number: u32) -> bool
     ensures { result ≡ (list_all is_digit digits.now && numeral_value digits.now == number) }
 {
-    let number = number as u64;
     let mut value: u64 = 0;
     let mut rest = digits;
     while let [digit, more @ ..] = rest {
         if !digit.is_ascii_digit() {
             return false;
         }
-        value = 10 * value + (*digit - b'0') as u64;
-        if number < value {
+        value = 10 * value + u64::from(*digit - b'0');
+        if u64::from(number) < value {
             return false;
         }
         rest = more;
     }
-    value == number
+    value == u64::from(number)
+}
+
+/// Whether a text is said within quotation marks. Another is a literal.
+pub fn is_quotable(text: &[u8]) -> bool
+    ensures { result ≡ is_quotable text.now }
+{
+    text.len() <= 1000 && is_plain(text)
+}
+
+fn is_plain(text: &[u8]) -> bool
+    ensures { result ≡ list_all is_plain text.now }
+{
+    text.iter().all(|b| *b >= 32 && *b <= 126)
 }
