@@ -1,5 +1,5 @@
 -- Folders by their names and by their places.
-use Rattle.std.proofs.Common.{◌≡◌, ℕ, zero, suc, ◌<◌, ◌≤◌, List, [], ◌∷◌, length, get_or, set, refl, ap, ◌∙◌, sym, arith, inl, inr, Option, Some, None, absurd}
+use Rattle.std.proofs.Common.{◌≡◌, ℕ, zero, suc, ◌<◌, ◌≤◌, List, [], ◌∷◌, length, get_or, set, refl, ap, ◌∙◌, sym, arith, inl, inr, Option, Some, None}
 use Rattle.std.specs.Prelude.{Result, Ok, Err}
 use Rattle.std.specs.List.{prefix_len, remove}
 use Rattle.std.specs.Str.{bytes_eq}
@@ -11,7 +11,7 @@ use Rattle.mailbox_rows.specs.declared.fault.ViewFault.TheVariants.{TooMany, Mem
 use Rattle.mailbox_rows.specs.Mailboxes.{MailboxState, new_mailbox}
 use Rattle.mailbox_view.specs.Fetched.{AppliesFetch, with_fetch}
 use Rattle.mailbox_view.specs.Fetches.{AppliesFetchAt, excess_in}
-use Rattle.mailbox_view.specs.Selections.{is_other, found, others, with_nth, with_concerned, nth_box, concerned_box}
+use Rattle.mailbox_view.specs.Selections.{is_other, found, others, with_nth, with_concerned, nth_box}
 
 -- ---- by name
 
@@ -81,17 +81,16 @@ nth_past (suc n) (box ∷ folders) h = nth_past n folders (omega (h, arith))
 
 -- ---- a FETCH
 
-pub box_there : (place : Option ℕ) (n : ℕ) (folders : List MailboxState) (old : MailboxState) → place ≡ Some n → n < length folders → old ≡ get_or folders n old → concerned_box place folders ≡ Some old
-box_there place n folders old there h is = ap (λ p. concerned_box p folders) there ∙ nth_there n folders old h ∙ ap (λ (box : MailboxState). Some box) (sym is)
+pub box_there : (n : ℕ) (folders : List MailboxState) (old : MailboxState) → n < length folders → old ≡ get_or folders n old → nth_box n folders ≡ Some old
+box_there n folders old h is = nth_there n folders old h ∙ ap (λ (box : MailboxState). Some box) (sym is)
 
-pub fetch_at : (place : Option ℕ) (n uid : ℕ) (fields : Fields) (folders : List MailboxState) (old new : MailboxState) (result : Result Unit ViewFault) → place ≡ Some n → n < length folders → old ≡ get_or folders n old → AppliesFetch old uid fields result new → AppliesFetchAt folders place uid fields result (set folders n new)
-fetch_at place n uid fields folders old new (Ok u) there h is applied =
-    (ap (excess_in uid fields) (box_there place n folders old there h is) ∙ applied.0, set_at place n (with_fetch uid fields) folders old new there is applied.1)
-fetch_at place n uid fields folders old new (Err (TooMany count bytes)) there h is applied =
-    (ap (excess_in uid fields) (box_there place n folders old there h is) ∙ applied.0, set_at place n (with_fetch uid fields) folders old new there is applied.1)
-fetch_at place n uid fields folders old new (Err Memory) there h is applied =
+pub fetch_at : (n uid : ℕ) (fields : Fields) (folders : List MailboxState) (old new : MailboxState) (result : Result Unit ViewFault) → n < length folders → old ≡ get_or folders n old → AppliesFetch old uid fields result new → AppliesFetchAt folders (Some n) uid fields result (set folders n new)
+fetch_at n uid fields folders old new (Ok u) h is applied =
+    (ap (excess_in uid fields) (box_there n folders old h is) ∙ applied.0, set_nth n (with_fetch uid fields) folders old new is applied.1)
+fetch_at n uid fields folders old new (Err (TooMany count bytes)) h is applied =
+    (ap (excess_in uid fields) (box_there n folders old h is) ∙ applied.0, set_nth n (with_fetch uid fields) folders old new is applied.1)
+fetch_at n uid fields folders old new (Err Memory) h is applied =
     ap (λ box. set folders n box) (applied ∙ is) ∙ set-get_or folders n old
 
-pub fetch_past : (place : Option ℕ) (n uid : ℕ) (fields : Fields) (folders : List MailboxState) → place ≡ Some n → length folders ≤ n → AppliesFetchAt folders place uid fields (Ok tt) folders
-fetch_past place n uid fields folders there h =
-    (ap (λ p. excess_in uid fields (concerned_box p folders)) there ∙ ap (excess_in uid fields) (nth_past n folders h), past_at place n (with_fetch uid fields) folders there h)
+pub fetch_past : (n uid : ℕ) (fields : Fields) (folders : List MailboxState) → length folders ≤ n → AppliesFetchAt folders (Some n) uid fields (Ok tt) folders
+fetch_past n uid fields folders h = (ap (excess_in uid fields) (nth_past n folders h), past_nth n (with_fetch uid fields) folders h)

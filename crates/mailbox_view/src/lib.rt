@@ -6,9 +6,9 @@
 pub mod abilities;
 pub mod awaited;
 pub mod fetched;
-pub mod recent;
+mod recent;
 pub mod selection;
-pub mod tags;
+mod tags;
 pub mod view;
 
 pub use abilities::Abilities;

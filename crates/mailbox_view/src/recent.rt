@@ -96,7 +96,7 @@ pub fn move_to_front(alloc: Global, folders: &mut Vec<Mailbox>, name: &[u8]) -> 
 }
 
 /// Sets the UIDVALIDITY of the folder at a place.
-#[tactic(auto, using(crate::proofs::FolderLemmas::set_at, crate::proofs::FolderLemmas::past_at))]
+#[tactic(auto, using(crate::proofs::FolderLemmas::set_at))]
 pub fn set_validity_at(folders: &mut Vec<Mailbox>, place: Option<usize>, validity: u32)
     ensures { folders.new.items ≡ with_concerned place (renewed validity) folders.old.items }
 {
@@ -108,7 +108,7 @@ pub fn set_validity_at(folders: &mut Vec<Mailbox>, place: Option<usize>, validit
 }
 
 /// Raises the mark of the folder at a place.
-#[tactic(auto, using(crate::proofs::FolderLemmas::set_at, crate::proofs::FolderLemmas::past_at))]
+#[tactic(auto, using(crate::proofs::FolderLemmas::set_at))]
 pub fn raise_mark_at(folders: &mut Vec<Mailbox>, place: Option<usize>, mark: u64)
     ensures { folders.new.items ≡ with_concerned place (raised mark) folders.old.items }
 {
@@ -120,7 +120,7 @@ pub fn raise_mark_at(folders: &mut Vec<Mailbox>, place: Option<usize>, mark: u64
 }
 
 /// Forgets the rows of the folder at a place.
-#[tactic(auto, using(crate::proofs::FolderLemmas::set_at, crate::proofs::FolderLemmas::past_at))]
+#[tactic(auto, using(crate::proofs::FolderLemmas::set_at))]
 pub fn forget_at(folders: &mut Vec<Mailbox>, place: Option<usize>)
     ensures { folders.new.items ≡ with_concerned place emptied folders.old.items }
 {
@@ -132,7 +132,7 @@ pub fn forget_at(folders: &mut Vec<Mailbox>, place: Option<usize>)
 }
 
 /// Removes the rows whose UIDs are in a set from the folder at a place.
-#[tactic(auto, using(crate::proofs::FolderLemmas::set_at, crate::proofs::FolderLemmas::past_at))]
+#[tactic(auto, using(crate::proofs::FolderLemmas::set_at))]
 pub fn vanish_at(folders: &mut Vec<Mailbox>, place: Option<usize>, set: &UidSet)
     ensures { folders.new.items ≡ with_concerned place (λ box. with_rows box (without (λ uid. contains_uid uid set.now) box.rows)) folders.old.items }
 {
@@ -144,7 +144,6 @@ pub fn vanish_at(folders: &mut Vec<Mailbox>, place: Option<usize>, set: &UidSet)
 }
 
 /// Applies what was told of a message to the folder at a place.
-#[tactic(auto, using(crate::proofs::FolderLemmas::fetch_at, crate::proofs::FolderLemmas::fetch_past))]
 pub fn apply_fetch_at(
     folders: &mut Vec<Mailbox>,
     place: Option<usize>,
@@ -153,10 +152,24 @@ pub fn apply_fetch_at(
 ) -> Result<(), ViewFault>
     ensures { AppliesFetchAt folders.old.items place uid fields result folders.new.items }
 {
-    if let Some(n) = place {
-        if n < folders.len() {
-            return apply_fetch(&mut folders[n], uid, fields);
-        }
+    match place {
+        Some(n) => apply_fetch_in(folders, n, uid, fields),
+        None => Ok(()),
     }
-    Ok(())
+}
+
+#[tactic(auto, using(crate::proofs::FolderLemmas::fetch_at))]
+fn apply_fetch_in(
+    folders: &mut Vec<Mailbox>,
+    n: usize,
+    uid: u32,
+    fields: Fields,
+) -> Result<(), ViewFault>
+    ensures { AppliesFetchAt folders.old.items (Some n) uid fields result folders.new.items }
+{
+    if n < folders.len() {
+        apply_fetch(&mut folders[n], uid, fields)
+    } else {
+        Ok(())
+    }
 }

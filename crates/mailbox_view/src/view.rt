@@ -5,7 +5,7 @@ ghost use Rattle.imap_values.specs.Lents.{bytes_of};
 ghost use Rattle.imap_grammar.specs.Response.{data_of};
 ghost use Rattle.mailbox_view.specs.Applied.{AppliesAs};
 ghost use Rattle.mailbox_view.specs.Fetched.{fields_of};
-ghost use Rattle.mailbox_view.specs.View.{empty_view, after_dial, begun, with_select, with_select_soon, with_quotable, with_command, after_said, after_plus, after_code, after_ok, after_no, after_answer, after_tagged, after_capability, after_enabled, after_list, after_fetch, after_fetched, told, after_response, awaited_of_new, after_closed, is_tag, selected_box, lacking_capability, lacking_enabled, lacking_selected, excess_fetched, excess_told, excess};
+ghost use Rattle.mailbox_view.specs.View.{empty_view, after_dial, begun, with_select, with_select_soon, with_quotable, with_command, after_said, after_plus, after_code, after_ok, after_no, after_answer, after_tagged, after_capability, after_enabled, after_list, after_fetch, after_fetched, told, after_response, awaited_of_new, after_closed, is_tag, is_awaiting, selected_box, lacking_capability, lacking_enabled, lacking_selected, excess_fetched, excess_told, excess};
 ghost use Rattle.mailbox_view.specs.Selections.{box_named};
 
 use crate::fetched::{copy_words, read_fields};
