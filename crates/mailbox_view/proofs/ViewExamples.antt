@@ -1,16 +1,15 @@
 -- What short talks tell.
-use Rattle.std.proofs.Common.{◌≡◌, ℕ, ◌==◌, ◌||◌, Bool, true, false, List, [], ◌∷◌, ◌++◌, refl, Option, Some, None}
+use Rattle.std.proofs.Common.{◌≡◌, ℕ, ◌==◌, Bool, true, false, List, [], ◌∷◌, ◌++◌, refl, Option, Some, None}
 use Rattle.std.specs.Prelude.{codes, pos, map}
 use Rattle.std.specs.Option.{option_map}
 use Rattle.imap_commands.specs.declared.command.Command.TheVariants as command
 use Rattle.imap_grammar.specs.declared.response.Word.TheVariants as words
 use Rattle.imap_grammar.specs.declared.response.Code.TheVariants as coding
-use Rattle.imap_grammar.specs.ItemData.{Uid, Flags, Modseq, Internal, Size, Header, Body, OtherItem}
-use Rattle.imap_grammar.specs.Response.{ResponseData}
-use Rattle.imap_grammar.specs.Response.ResponseData.{Continue, Tagged, State, Capability, Enabled, Mailbox, Exists, Expunge, Fetch, Vanished, Esearch, Other}
+use Rattle.imap_grammar.specs.ItemData.{Uid, Flags, Modseq, Internal, Size, Header, Body}
+use Rattle.imap_grammar.specs.Response.ResponseData.{Continue, Tagged, State, Capability, Enabled, Mailbox, Expunge, Fetch, Vanished, Esearch}
 use Rattle.mailbox_rows.specs.Mailboxes.{MailboxState}
 use Rattle.mailbox_view.specs.Selections.{nth_box}
-use Rattle.mailbox_view.specs.View.{ViewState, lacking_capability, lacking_enabled, lacking_selected}
+use Rattle.mailbox_view.specs.View.{lacking_capability, lacking_enabled, lacking_selected}
 use Rattle.mailbox_view.specs.Events.{Event, Dialled, Said, Heard, view_of}
 
 -- ---- what is asked of a view

@@ -1,5 +1,5 @@
 -- What a FETCH makes of a view.
-use Rattle.std.proofs.Common.{◌≡◌, ℕ, List, Option, Some, None, ap, sym, ◌∙◌}
+use Rattle.std.proofs.Common.{◌≡◌, ℕ, List, Some, None, ap, sym, ◌∙◌}
 use Rattle.mailbox_rows.specs.declared.row.Fields.{Fields}
 use Rattle.mailbox_rows.specs.Mailboxes.{MailboxState}
 use Rattle.mailbox_view.specs.Fetched.{with_fetch}

@@ -1,5 +1,5 @@
 -- What a FETCH response tells (RFC 9051 §7.5.2).
-use Rattle.std.specs.Prelude.{◌≡◌, ℕ, if◌then◌else◌, List, [], ◌∷◌, length, Option, Some, None, Result, Ok, Err}
+use Rattle.std.specs.Prelude.{◌≡◌, ℕ, if◌then◌else◌, List, [], length, Option, Some, None, Result, Ok, Err}
 use Rattle.std.specs.List.{fold}
 use Rattle.imap_grammar.specs.ItemData.{ItemData, Uid, Flags, Modseq, Internal, Size, Header, Body, OtherItem}
 use Rattle.mailbox_rows.specs.declared.row.Row.{Row}

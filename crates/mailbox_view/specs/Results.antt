@@ -3,9 +3,9 @@ use Rattle.std.specs.Prelude.{ℕ, ◌==◌, Bool, true, false, ◌&&◌, if◌t
 use Rattle.std.specs.List.{fold}
 use Rattle.imap_commands.specs.declared.command.Command.{Command}
 use Rattle.imap_commands.specs.declared.command.Command.TheVariants as command
-use Rattle.imap_grammar.specs.ItemData.{ItemData, Uid, Flags, Modseq, Internal, Size, Header, Body, OtherItem}
+use Rattle.imap_grammar.specs.ItemData.{ItemData, Body}
 use Rattle.imap_grammar.specs.Response.{ResponseData}
-use Rattle.imap_grammar.specs.Response.ResponseData.{Continue, Tagged, State, Capability, Enabled, Mailbox, Exists, Expunge, Fetch, Vanished, Esearch, Other}
+use Rattle.imap_grammar.specs.Response.ResponseData.{Fetch, Esearch}
 use Rattle.mailbox_rows.specs.Mailboxes.{MailboxState}
 use Rattle.mailbox_view.specs.declared.awaited.Awaited.{Awaited}
 use Rattle.mailbox_view.specs.declared.awaited.Awaited.TheVariants as awaits
