@@ -5,3 +5,5 @@
 mod links;
 #[cfg(test)]
 mod rows;
+#[cfg(test)]
+mod views;

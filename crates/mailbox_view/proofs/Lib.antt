@@ -1,0 +1,5 @@
+mod FolderLemmas
+mod TagLemmas
+mod ViewLemmas
+mod ViewExamples
+mod ResultExamples

@@ -1,0 +1,7 @@
+pub mod Applied
+pub mod Events
+pub mod Fetched
+pub mod Fetches
+pub mod Results
+pub mod Selections
+pub mod View
