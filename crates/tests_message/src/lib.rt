@@ -14,8 +14,6 @@ mod references;
 #[cfg(test)]
 mod streams;
 #[cfg(test)]
-mod subjects;
-#[cfg(test)]
 mod trees;
 #[cfg(test)]
 mod values;

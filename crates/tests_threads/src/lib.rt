@@ -1,0 +1,5 @@
+//! Tests of what threads are made of: base subjects and message identifiers.
+#![tactic(auto)]
+
+#[cfg(test)]
+mod subjects;
