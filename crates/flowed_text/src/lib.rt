@@ -5,8 +5,9 @@ mod lines;
 mod reading;
 mod writing;
 
+pub use lines::split_line;
 use mail_values::Text;
-pub use reading::{Paras, read_flowed};
+pub use reading::{Paras, read_flowed, read_line};
 pub use std::alloc::AllocError as Memory;
 pub use writing::write_flowed;
 

@@ -138,8 +138,8 @@ fn close_para(begun: OpenPara) -> Para
     }
 }
 
-/// Reads a line as its depth and its text, without marks and stuffing.
-fn read_line(line: &str) -> (u32, &str)
+/// Returns the quote depth of a line and its text, without quote marks and stuffing (RFC 3676 §4.4, §4.5).
+pub fn read_line(line: &str) -> (u32, &str)
     ensures depth { result.0 ≡ (read_line line.now).depth }
     ensures text { result.1.now ≡ (read_line line.now).text }
 {

@@ -18,8 +18,9 @@ pub fn message_ids(alloc: Global, field: &Field<'_>) -> Result<Vec<Bytes>, Alloc
     ids_in(alloc, &value)
 }
 
-/// Reads each byte twice at most, since no identifier goes past the next `<`.
-fn ids_in(alloc: Global, text: &[u8]) -> Result<Vec<Bytes>, AllocError>
+/// Returns the message identifiers in a text, as `message_ids` does in a field. Each byte is read twice at most, since no identifier goes past
+/// the next `<`.
+pub fn ids_in(alloc: Global, text: &[u8]) -> Result<Vec<Bytes>, AllocError>
     ensures { IfOk result (λ ids. ids.items ≡ ids_in text.now) }
 {
     let mut ids = Vec::new(alloc);

@@ -12,7 +12,7 @@ mod words;
 
 pub use decoding::{decoded, decoded_words, trim, unfolded};
 pub use header::{Field, Fields};
-pub use identifiers::message_ids;
+pub use identifiers::{ids_in, message_ids};
 pub use lines::{find_byte, first_line};
 pub use mail_values::Memory;
 pub use reading::fields;
