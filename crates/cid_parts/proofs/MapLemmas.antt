@@ -1,8 +1,16 @@
 -- Maps of parts, over plain functions from a key to a section.
-use Rattle.std.proofs.Common.{◌≡◌, ℕ, ◌+◌, ◌<◌, Bool, true, false, cond, List, [], ◌∷◌, ◌++◌, length, take, get_or, Some, None, refl, sym, ap, ◌∙◌, add-one}
-use Rattle.std.specs.Prelude.{Option, map, find, option_map, is_some, bytes_eq, if◌then◌else◌}
+use Rattle.std.proofs.Common.{◌≡◌, ℕ, ◌+◌, ◌<◌, Bool, true, false, cond, List, [], ◌∷◌, ◌++◌, length, take, get_or, Some, None, refl, sym, ap, subst, ◌∙◌, add-one}
+use Rattle.std.specs.Prelude.{Option, map, find, option_map, is_some, bytes_eq, string_bytes, if◌then◌else◌}
+use Rattle.std.specs.declared.cmp.Ordering.{Ordering}
+use Rattle.std.specs.declared.cmp.Ordering.TheVariants.{Less, Equal, Greater}
+use Rattle.std.specs.declared.string.String.{String}
+use Rattle.std.specs.BTreeMap.{BTreeMap, UpdatesBy, get_by, is_at}
+use Rattle.std.specs.Cmp.{IsTotalOrder, then_total, on_total, nat_cmp_total, eq_by_cmp_equiv}
+use Rattle.std.specs.Cmp.Lexicographic.{slice_cmp, nat_list_cmp_total, nat_list_eq_equiv, texts_ties}
+use Rattle.std.specs.Ordering.{is_eq, nat_cmp, ordering_then}
+use Rattle.std.specs.String.{string_cmp}
 use Rattle.std.specs.Option.{option_or}
-use Rattle.std.specs.Map.{update}
+use Rattle.std.specs.Map.{update, AreApart, KeepsOthers}
 use Rattle.std.proofs.Math.Seq.{take-suc}
 use Rattle.std.proofs.lemmas.List.{map-append}
 use Rattle.std.proofs.lemmas.List.Elements.{filter-append}
@@ -10,6 +18,7 @@ use Rattle.std.proofs.lemmas.List.Folds.{find-append}
 use Rattle.std.proofs.lemmas.Slice.Eq.{bytes_eq-Decides}
 use Rattle.mime_tree.specs.Tree.{PartValue}
 use Rattle.cid_parts.specs.Located.{LocatedPart, located, is_own, located_parts}
+use Rattle.cid_parts.specs.Maps.{compare_key, digest, section_of_address}
 use Rattle.cid_parts.specs.Refer.{first_part}
 
 section_or : (x y : Option LocatedPart) → option_map (λ (p : LocatedPart). p.section) (option_or x y) ≡ option_or (option_map (λ (p : LocatedPart). p.section) x) (option_map (λ (p : LocatedPart). p.section) y)
@@ -58,3 +67,49 @@ pub maps_next : (old new : List ℕ → Option (List ℕ)) (passes : List ℕ �
 maps_next old new passes parts i p within item maps adds q =
     let here : first_part (passes q) (located_parts (p ∷ [])) ≡ first_part (passes q) (located_parts (get_or parts i p ∷ [])) = ap (λ r. first_part (passes q) (located_parts (r ∷ []))) item in
     adds q ∙ ap (λ x. option_or x (first_part (passes q) (located_parts (p ∷ [])))) (maps q) ∙ ap (option_or (first_part (passes q) (located_parts (take i parts)))) here ∙ sym (first_part-next (passes q) parts i p within)
+
+-- ---- keys of addresses
+
+key_total : IsTotalOrder (λ (x y : ℕ × List ℕ). ordering_then (nat_cmp x.0 y.0) (slice_cmp nat_cmp x.1 y.1))
+key_total = then_total (on_total (λ (k : ℕ × List ℕ). k.0) nat_cmp_total) (on_total (λ (k : ℕ × List ℕ). k.1) nat_list_cmp_total)
+
+second_differs : (o p : Ordering) → is_eq p ≡ false → is_eq (ordering_then o p) ≡ false
+second_differs Less p other = refl
+second_differs Equal p other = other
+second_differs Greater p other = refl
+
+second_ties : (o p : Ordering) → is_eq (ordering_then o p) ≡ true → is_eq p ≡ true
+second_ties Less p ties = cc
+second_ties Equal p ties = ties
+second_ties Greater p ties = cc
+
+-- the texts of two addresses differ, so no key is that of both
+apart : (text other : List ℕ) → bytes_eq text other ≡ false → {Y : Type 0} → AreApart (is_at (compare_key {Y = Y} text)) (is_at (compare_key {Y = Y} other))
+apart text other differs key here =
+    let ties : bytes_eq text (string_bytes key.1) ≡ true = texts_ties text (string_bytes key.1) ∙ second_ties (nat_cmp (digest text) key.0) _ here in
+    let not_other : bytes_eq other (string_bytes key.1) ≡ false = nat_list_eq_equiv.symm other (string_bytes key.1) ∙ sym (nat_list_eq_equiv.congr text (string_bytes key.1) other ties) ∙ differs in
+    second_differs (nat_cmp (digest other) key.0) _ (sym (texts_ties other (string_bytes key.1)) ∙ not_other)
+
+-- the order of keys
+abbrev compare_keys : {Y : Type 0} → ℕ × String Y → ℕ × String Y → Ordering
+compare_keys x y = ordering_then (nat_cmp x.0 y.0) (string_cmp x.1 y.1)
+
+updates_text : {Y : Type 0} (text : List ℕ) (m n : BTreeMap (ℕ × String Y) (List ℕ)) (w : Option (List ℕ)) → UpdatesBy compare_keys (compare_key text) m n w → (q : List ℕ) → section_of_address n q ≡ update bytes_eq (section_of_address m) text w q
+unfolding KeepsOthers
+updates_text {Y} text m n w updates q = by_case (bytes_eq text q) refl
+  where
+    by_case : (b : Bool) → bytes_eq text q ≡ b → section_of_address n q ≡ cond b w (section_of_address m q)
+    by_case true same = subst (λ l. section_of_address n l ≡ w) ((bytes_eq-Decides text q).0 same) updates.1
+    by_case false differs = updates.3 (is_at (compare_key q)) (λ x y. (eq_by_cmp_equiv key_total).congr (digest q, q) (x.0, string_bytes x.1) (y.0, string_bytes y.1)) (apart text q differs)
+
+abbrev is_key : {Y : Type 0} → ℕ × String Y → Type 0
+is_key key = key.0 ≡ digest (string_bytes key.1)
+
+-- what is at a key is at its address
+pub get_address : {Y : Type 0} (key : ℕ × String Y) (m : BTreeMap (ℕ × String Y) (List ℕ)) → is_key key → get_by (compare_keys key) m ≡ section_of_address m (string_bytes key.1)
+get_address key m is = ap (λ d. get_by (λ k. ordering_then (nat_cmp d k.0) (string_cmp key.1 k.1)) m) is
+
+-- a section that is put at a key is that of its address, and other addresses have those that they had
+pub updates_address : {Y : Type 0} (key : ℕ × String Y) (m n : BTreeMap (ℕ × String Y) (List ℕ)) (w : Option (List ℕ)) → is_key key → UpdatesBy compare_keys (compare_keys key) m n w
+    → (q : List ℕ) → section_of_address n q ≡ update bytes_eq (section_of_address m) (string_bytes key.1) w q
+updates_address key m n w is updates = updates_text (string_bytes key.1) m n w (subst (λ d. UpdatesBy compare_keys (λ k. ordering_then (nat_cmp d k.0) (string_cmp key.1 k.1)) m n w) is updates)

@@ -1,5 +1,5 @@
 //! Reads an address: its scheme, its URL, and what a URL is by itself.
-ghost use Rattle.std.specs.Prelude.{◌≡◌, true, ◌&&◌, ◌||◌, IfOk, if◌then◌else◌, Some, None, drop, codes};
+ghost use Rattle.std.specs.Prelude.{◌≡◌, true, ◌&&◌, ◌||◌, IfOk, if◌then◌else◌, Some, None, drop, codes, string_bytes, IsAscii};
 ghost use Rattle.std.specs.List.{list_all};
 ghost use Rattle.std.specs.Option.{option_copied};
 ghost use Rattle.url.specs.Parts.{serialize};
@@ -62,11 +62,16 @@ fn within_limit(base: Option<Url>) -> Result<Option<Url>, AllocError>
     }
 }
 
-/// Returns whether a text has neither a space nor a control.
+/// Returns whether a text has neither a space nor a control. It reads the whole text: without an end in its midst, the loop is done on
+/// many bytes at once.
 pub fn has_address_chars(text: &str) -> bool
     ensures { result ≡ list_all is_address_char text.now }
 {
-    text.bytes().all(is_address_byte)
+    let mut all = true;
+    for byte in text.as_bytes() {
+        all &= is_address_byte(*byte);
+    }
+    all
 }
 
 fn is_address_byte(byte: u8) -> bool
@@ -104,24 +109,19 @@ fn begins_with(word: &str, text: &str) -> bool
     text.as_bytes().starts_with(word.as_bytes())
 }
 
-/// Returns what a URL without spaces and controls is by itself.
+/// Returns what a URL is by itself, by its text, which has neither spaces nor controls.
 #[tactic(auto, unfolding(crate::specs::Refer::ref_of_text))]
-pub fn ref_of_url(url: Url) -> Ref
-    requires { list_all is_address_char (serialize url) ≡ true }
-    ensures equals { result ≡ ref_of_text (serialize url) }
+pub fn ref_of_text(text: String) -> Ref
+    requires chars { list_all is_address_char (string_bytes text) ≡ true }
+    requires ascii { IsAscii (string_bytes text) }
+    ensures equals { result ≡ ref_of_text (string_bytes text) }
     ensures safe { IsSafe result }
 {
-    if is_remote(url.as_str()) {
-        return Ref::Remote(text_of(url));
+    if is_remote(text.as_str()) {
+        return Ref::Remote(Text::from_string(text));
     }
-    if is_link(url.as_str()) {
-        return Ref::Link(text_of(url));
+    if is_link(text.as_str()) {
+        return Ref::Link(Text::from_string(text));
     }
     Ref::Nothing
-}
-
-fn text_of(url: Url) -> Text
-    ensures { result ≡ serialize url }
-{
-    Text::from_string(String::from(url))
 }

@@ -6,8 +6,8 @@ ghost use Rattle.url.specs.Parts.{serialize};
 ghost use Rattle.cid_parts.specs.Located.{references_of};
 ghost use Rattle.cid_parts.specs.Refer.{is_cid, refer, refer_to_id, refer_to_text, IsSafe};
 
-use crate::addresses::{content_id, has_address_chars, read_base, read_url, ref_of_url};
-use crate::maps::{Addresses, Ids, map_addresses, map_ids};
+use crate::addresses::{content_id, has_address_chars, read_base, read_url, ref_of_text};
+use crate::maps::{Addresses, Ids, address_key, map_addresses, map_ids};
 use crate::refs::Ref;
 use mime_tree::{Part, Tree};
 use percent_encoding::percent_decode;
@@ -96,9 +96,10 @@ impl<'t, 'a> References<'t, 'a> {
         if !has_address_chars(url.as_str()) {
             return Ref::Nothing;
         }
-        match self.addresses.get(url.as_str()) {
+        let key = address_key(String::from(url));
+        match self.addresses.get(&key) {
             Some(section) => Ref::Part(*section),
-            None => ref_of_url(url),
+            None => ref_of_text(key.1),
         }
     }
 }

@@ -2,20 +2,42 @@
 ghost use Rattle.std.specs.Prelude.{◌≡◌, IfOk, OnOk, option_map, string_bytes};
 ghost use Rattle.std.specs.Option.{option_copied};
 ghost use Rattle.cid_parts.specs.Located.{located, located_parts, address_of};
-ghost use Rattle.cid_parts.specs.Maps.{MapsIds, MapsAddresses, AddsId, AddsAddress};
+ghost use Rattle.cid_parts.specs.Maps.{AddsAddress, AddsId, MapsAddresses, MapsIds, digest};
 
 use crate::addresses::read_url;
 use mail_values::Section;
 use mime_tree::Part;
 use std::alloc::{AllocError, Global};
 use std::collections::BTreeMap;
+use std::hash::{FoldHasher, Hasher};
 use url::Url;
 
 /// The section of the first part of each Content-ID.
 pub type Ids<'t> = BTreeMap<&'t [u8], Section>;
 
-/// The section of the first part of each Content-Location, by the text of its URL.
-pub type Addresses = BTreeMap<String, Section>;
+/// The text of a URL, after its digest: texts that share a long base are compared only if their digests are the same. Whoever writes
+/// a message can make digests collide, which costs no more than an order by texts alone.
+pub type AddressKey = (u64, String);
+
+/// The section of the first part of each Content-Location, by the key of its URL.
+pub type Addresses = BTreeMap<AddressKey, Section>;
+
+/// Returns the key of a URL's text.
+pub fn address_key(text: String) -> AddressKey
+    ensures digest { result.0 ≡ digest (string_bytes text) }
+    ensures text { result.1 ≡ text }
+{
+    (digest(&text), text)
+}
+
+#[tactic(auto, unfolding(crate::specs::Maps::digest))]
+fn digest(text: &str) -> u64
+    ensures { result ≡ digest text.now }
+{
+    let mut hasher = FoldHasher::default();
+    hasher.write(text.as_bytes());
+    hasher.finish()
+}
 
 /// Maps the Content-IDs of the parts.
 pub fn map_ids<'t>(alloc: Global, parts: &'t [Part<'_>]) -> Result<Ids<'t>, AllocError>
@@ -86,10 +108,11 @@ fn add_address(
         return Err(AllocError);
     }
     let left = room - address.len();
-    if addresses.contains_key(address.as_str()) {
+    let key = address_key(address);
+    if addresses.contains_key(&key) {
         return Ok(left);
     }
-    addresses.insert(address, *part.section())?;
+    addresses.insert(key, *part.section())?;
     Ok(left)
 }
 
