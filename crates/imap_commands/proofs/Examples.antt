@@ -1,7 +1,8 @@
 -- Worked examples of commands.
-use Rattle.std.proofs.Common.{◌≡◌, [], ◌∷◌, ◌++◌, Some, refl, codes}
+use Rattle.std.proofs.Common.{◌≡◌, true, false, [], ◌∷◌, ◌++◌, map, Some, refl, codes}
+use Rattle.std.specs.Prelude.{replicate}
 use Rattle.std.specs.Fmt.{digits}
-use Rattle.imap_commands.specs.Pieces.{pieces_of, line_end}
+use Rattle.imap_commands.specs.Pieces.{is_quotable, pieces_of, line_end}
 use Rattle.imap_commands.specs.Commands.{command_parts, command_pieces}
 use Rattle.imap_commands.specs.declared.command.Command.TheVariants.{Login, Select, Noop, Append}
 use Rattle.imap_commands.specs.declared.command.Label.TheVariants.{Seen}
@@ -33,3 +34,7 @@ no_mark = refl
 appended : command_pieces 9 (Append (codes "Sent") (Some Seen) (codes "To: b")) ≡ (codes "A9 APPEND \"Sent\" (\\Seen) {5}" ++ line_end) ∷ (codes "To: b" ++ line_end) ∷ []
 unfolding command_pieces command_parts pieces_of digits
 appended = refl
+
+-- a quoted string has at most 1,000 bytes
+lengths : map is_quotable (replicate 1000 97 ∷ replicate 1001 97 ∷ []) ≡ true ∷ false ∷ []
+lengths = refl

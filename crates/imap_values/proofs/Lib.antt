@@ -1,3 +1,4 @@
+mod Examples
 pub mod WordLemmas
 pub mod QuotedLemmas
 pub mod ValueLemmas

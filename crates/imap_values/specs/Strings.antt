@@ -35,9 +35,13 @@ abbrev pub octets_at : ℕ → List ℕ → Option (List ℕ × List ℕ)
 octets_at n (a ∷ b ∷ c ∷ after) = if a == right_brace && b == carriage_return && c == line_feed then (if nat_lt (length after) n then None else Some (take n after, drop n after)) else None
 octets_at n bytes = None
 
--- a literal of at most 33,554,432 octets
+-- the octets of the longest literal that is read
+abbrev pub longest_literal : ℕ
+longest_literal = 33554432
+
+-- a literal
 unfoldable pub literal_at : List ℕ → Option (List ℕ × List ℕ)
-literal_at bytes = number_at 33554432 bytes >>= λ n. octets_at n.0 n.1
+literal_at bytes = number_at longest_literal bytes >>= λ n. octets_at n.0 n.1
 
 -- a literal8, after its ~: a literal that may hold NULs (RFC 9051 §4.3)
 abbrev pub literal8_at : List ℕ → Option (List ℕ × List ℕ)

@@ -27,9 +27,13 @@ abbrev pub is_empty : List ℕ → Bool
 is_empty [] = true
 is_empty (byte ∷ more) = false
 
--- `size` characters fit on a row of `column`: a row has at most 76, and if the line goes on, one of them is the `=` of a soft break
+-- the most characters on a row
+abbrev pub row_width : ℕ
+row_width = 76
+
+-- `size` characters fit on a row of `column`: if the line goes on, one of those of a row is the `=` of a soft break
 abbrev pub fits : ℕ → ℕ → Bool → Bool
-fits column size at_end = nat_le (column + size + (if at_end then 0 else 1)) 76
+fits column size at_end = nat_le (column + size + (if at_end then 0 else 1)) row_width
 
 -- the row that a soft break ends, if the next unit doesn't fit on it
 abbrev pub ended_row : List ℕ → List ℕ → Bool → List (List ℕ)

@@ -5,7 +5,7 @@ ghost use Rattle.std.specs.List.{All};
 ghost use Rattle.std.specs.Str.{IsAscii};
 ghost use Rattle.std.specs.Str.Lines.{lines};
 ghost use Rattle.transfer_codings.specs.Quoted.{quoted_bytes};
-ghost use Rattle.transfer_codings.specs.QuotedRows.{broken_lines, column_after, escape_of, placed_unit, quoted_text, rows_text, soft_break, is_literal, unit_column, upper_digit};
+ghost use Rattle.transfer_codings.specs.QuotedRows.{broken_lines, column_after, escape_of, placed_unit, quoted_text, row_width, rows_text, soft_break, is_literal, unit_column, upper_digit};
 
 use std::alloc::{AllocError as Memory, Global};
 
@@ -18,7 +18,7 @@ const WIDTH: usize = 76;
 pub fn encode_quoted(alloc: Global, bytes: &[u8]) -> Result<Vec<u8>, Memory>
     ensures text { IfOk result (λ text. text.items ≡ quoted_text bytes.now) }
     ensures decodes { IfOk result (λ text. quoted_bytes text.items ≡ bytes.now) }
-    ensures lines { IfOk result (λ text. All (λ line. length line ≤ 76) (lines text.items)) }
+    ensures lines { IfOk result (λ text. All (λ line. length line ≤ row_width) (lines text.items)) }
     ensures ascii { IfOk result (λ text. IsAscii text.items) }
 {
     let mut text = Vec::with_capacity(alloc, bytes.len())?;
@@ -62,10 +62,10 @@ fn push_line(line: &[u8], text: &mut Vec<u8>) -> Result<(), Memory>
 // Adds a byte of a line, with a soft break before it if it doesn't fit on a row of `column` characters. Returns how many the row
 // has then.
 fn push_byte(byte: u8, at_end: bool, column: usize, text: &mut Vec<u8>) -> Result<usize, Memory>
-    requires { column ≤ WIDTH }
+    requires { column ≤ row_width }
     ensures ok { OnOk result (text.new.items ≡ text.old.items ++ placed_unit column at_end byte) }
     ensures column { IfOk result (λ next. next ≡ column_after column at_end byte) }
-    ensures bound { IfOk result (λ next. next ≤ WIDTH) }
+    ensures bound { IfOk result (λ next. next ≤ row_width) }
 {
     if is_literal(byte, at_end) {
         let start = break_row(column, 1, at_end, text)?;
@@ -79,11 +79,11 @@ fn push_byte(byte: u8, at_end: bool, column: usize, text: &mut Vec<u8>) -> Resul
 
 // Adds a soft break, unless `size` characters fit on the row. Returns the column at which they begin.
 fn break_row(column: usize, size: usize, at_end: bool, text: &mut Vec<u8>) -> Result<usize, Memory>
-    requires in_row { column ≤ WIDTH }
+    requires in_row { column ≤ row_width }
     requires small { size ≤ 3 }
     ensures ok { OnOk result (text.new.items ≡ text.old.items ++ soft_break column size at_end) }
     ensures column { IfOk result (λ start. start ≡ unit_column column size at_end) }
-    ensures bound { IfOk result (λ start. start + size ≤ WIDTH) }
+    ensures bound { IfOk result (λ start. start + size ≤ row_width) }
 {
     let width = if at_end { WIDTH } else { WIDTH - 1 };
     if column + size <= width {
