@@ -1,0 +1,5 @@
+mod Examples
+pub mod Finished
+pub mod MomentLemmas
+pub mod Steps
+pub mod WordLemmas
