@@ -1,5 +1,5 @@
 -- Worked examples of built messages.
-use Rattle.std.proofs.Common.{◌≡◌, ℕ, true, false, List, [], ◌∷◌, ◌++◌, length, refl, rules, Some, None, Ok, Err}
+use Rattle.std.proofs.Common.{◌≡◌, ℕ, true, false, List, [], ◌∷◌, ◌++◌, refl, rules, Some, None, Ok, Err}
 use Rattle.std.specs.Prelude.{◌+◌, codes, map, pos, replicate}
 use Rattle.std.specs.List.{flat_map, range_with_len}
 use Rattle.account_pictures.specs.declared.records.Identity.{Identity}

@@ -1,5 +1,5 @@
 -- Messages that are built.
-use Rattle.std.proofs.Common.{◌≡◌, ℕ, ℤ, List, Ok, Err}
+use Rattle.std.proofs.Common.{◌≡◌, ℕ, ℤ, Ok, Err}
 use Rattle.std.specs.Prelude.{Result, IfOk}
 use Rattle.std.specs.Global.{Vec}
 use Rattle.jiff_core.specs.declared.civil.datetime.DateTime.{DateTime}

@@ -1,12 +1,12 @@
 -- The encoded words of a text, one after another.
-use Rattle.std.proofs.Common.{◌≡◌, ℕ, zero, suc, ◌+◌, ◌-◌, ◌<◌, ◌≤◌, inl, inr, Bool, true, false, eqb, List, [], ◌∷◌, ◌++◌, length, take, drop, get_or, refl, sym, ap, subst, ◌∙◌, arith, append_assoc}
-use Rattle.std.specs.Prelude.{nat_le, nat_lt, ◌||◌, ◌&&◌, codes, slice_index}
+use Rattle.std.proofs.Common.{◌≡◌, ℕ, zero, suc, ◌-◌, ◌<◌, ◌≤◌, inl, inr, true, false, eqb, List, [], ◌∷◌, ◌++◌, length, take, drop, refl, sym, ap, ◌∙◌, arith, append_assoc}
+use Rattle.std.specs.Prelude.{nat_le, slice_index}
 use Rattle.std.specs.List.{flat_map, join_by}
 use Rattle.std.proofs.lemmas.Bool.{cases_Bool}
 use Rattle.std.proofs.lemmas.Bool.Decides.{nat_tests}
 use Rattle.std.proofs.lemmas.List.{append-nil, length-drop}
 use Rattle.flowed_text.specs.Flow.{begins_character}
-use Rattle.compose_drafts.specs.Texts.{begins_word, encoded_word, encoded_words, has_word_mark, pieces, pieces_within, spaced_word, word_len}
+use Rattle.compose_drafts.specs.Texts.{encoded_word, encoded_words, pieces, pieces_within, spaced_word, word_len}
 
 -- a length that is tested for 0
 pub nonzero_if : (n : ℕ) → false ≡ eqb n 0 → 1 ≤ n

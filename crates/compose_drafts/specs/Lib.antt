@@ -1,4 +1,5 @@
 pub mod Texts
+pub mod Lines
 pub mod Paragraphs
 pub mod References
 pub mod Moments

@@ -1,5 +1,5 @@
 -- The message of a draft, line by line (RFC 5322, RFC 2045).
-use Rattle.std.specs.Prelude.{ℕ, zero, suc, ◌+◌, ◌/◌, ◌%◌, ◌==◌, nat_lt, Bool, if◌then◌else◌, List, [], ◌∷◌, ◌++◌, length, map, drop, codes, Option, Some, None}
+use Rattle.std.specs.Prelude.{ℕ, zero, suc, ◌+◌, ◌/◌, ◌%◌, ◌==◌, nat_lt, Bool, if◌then◌else◌, List, [], ◌∷◌, ◌++◌, length, codes, Option, Some, None}
 use Rattle.std.specs.List.{flat_map, join_by}
 use Rattle.jiff_core.specs.declared.civil.datetime.DateTime.{DateTime}
 use Rattle.flowed_text.specs.Flow.{flow}
@@ -8,7 +8,7 @@ use Rattle.compose_drafts.specs.declared.parties.Parties.{Parties}
 use Rattle.compose_drafts.specs.Moments.{date_text}
 use Rattle.compose_drafts.specs.Paragraphs.{coded, coding_name, is_seven_bit, paragraphs_of}
 use Rattle.compose_drafts.specs.References.{last_of_ids, references_of}
-use Rattle.compose_drafts.specs.Texts.{fold, in_angles, line_end, written}
+use Rattle.compose_drafts.specs.Texts.{ended, fold, in_angles, line_end, written}
 
 -- ---- the values of fields
 
@@ -56,9 +56,6 @@ header draft parties clock seven_bit =
     ++ codes "MIME-Version: 1.0" ∷ []
     ++ codes "Content-Type: text/plain; charset=utf-8; format=flowed" ∷ []
     ++ (codes "Content-Transfer-Encoding: " ++ coding_name seven_bit) ∷ []
-
-abbrev pub ended : List ℕ → List ℕ
-ended line = line ++ line_end
 
 -- the paragraphs of the draft's text, as flowed text
 abbrev pub body : Draft → List ℕ

@@ -3,7 +3,6 @@ use Rattle.std.specs.Prelude.{ℕ, ◌==◌, nat_le, nat_lt, Bool, ◌&&◌, if�
 use Rattle.std.specs.List.{list_all, slice_split}
 use Rattle.std.specs.Str.{bytes_eq}
 use Rattle.flowed_text.specs.declared.Para.{Para}
-use Rattle.flowed_text.specs.Flow.{flow}
 use Rattle.flowed_text.specs.Lines.{lines}
 use Rattle.flowed_text.specs.Paragraphs.{read_line, signature}
 use Rattle.mail_addresses.specs.Runs.{skip_spaces, trim_end}

@@ -1,5 +1,5 @@
 -- Texts in the fields of a header (RFC 5322 §2.2), and the boxes in them. Texts are in UTF-8.
-use Rattle.std.specs.Prelude.{ℕ, zero, suc, ◌==◌, nat_lt, nat_le, Bool, false, not, ◌&&◌, ◌||◌, if◌then◌else◌, List, [], ◌∷◌, ◌++◌, length, take, drop, slice_index, codes}
+use Rattle.std.specs.Prelude.{ℕ, zero, suc, ◌==◌, nat_le, Bool, false, not, ◌&&◌, ◌||◌, if◌then◌else◌, List, [], ◌∷◌, ◌++◌, length, take, drop, slice_index, codes}
 use Rattle.std.specs.List.{flat_map, join_by, list_all}
 use Rattle.base64.specs.Engines.{standard}
 use Rattle.base64.specs.GeneralPurpose.{encode_of}
@@ -9,6 +9,9 @@ use Rattle.mail_values.specs.Ascii.{line_feed, carriage_return, space, quotation
 
 abbrev pub line_end : List ℕ
 line_end = carriage_return ∷ line_feed ∷ []
+
+abbrev pub ended : List ℕ → List ℕ
+ended line = line ++ line_end
 
 -- a line's end inside a field: the field goes on after a space (§2.2.3)
 abbrev pub fold : List ℕ

@@ -1,6 +1,7 @@
 //! Builds messages.
 ghost use Rattle.std.specs.Prelude.{◌≡◌, IfOk};
 ghost use Rattle.compose_drafts.specs.Drafts.{Builds, IsMessage, parties_of, saved_parties_of};
+ghost use Rattle.compose_drafts.specs.Lines.{IsLines};
 ghost use Rattle.compose_drafts.specs.Message.{message};
 
 use crate::DraftFault;
@@ -23,7 +24,8 @@ pub fn build(
     identity: &Identity,
     moment: i64,
 ) -> Result<Vec<u8>, DraftFault>
-    ensures { Builds draft.now (parties_of draft.now identity.now) moment result }
+    ensures equals { Builds draft.now (parties_of draft.now identity.now) moment result }
+    ensures lines { IfOk result (λ bytes. IsLines bytes.items) }
 {
     let parties = read_parties(alloc, draft, identity)?;
     let bytes = dated_message(alloc, draft, &parties, moment)?;
@@ -39,7 +41,8 @@ pub fn build_draft(
     identity: &Identity,
     moment: i64,
 ) -> Result<Vec<u8>, DraftFault>
-    ensures { Builds draft.now (saved_parties_of draft.now identity.now) moment result }
+    ensures equals { Builds draft.now (saved_parties_of draft.now identity.now) moment result }
+    ensures lines { IfOk result (λ bytes. IsLines bytes.items) }
 {
     let parties = saved_parties(alloc, draft, identity)?;
     let bytes = dated_message(alloc, draft, &parties, moment)?;

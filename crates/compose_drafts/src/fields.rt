@@ -1,11 +1,11 @@
 //! The fields of a message's header.
 ghost use Rattle.std.specs.Prelude.{◌≡◌, ◌++◌, ◌∷◌, [], ◌<◌, OnOk, codes};
 ghost use Rattle.std.specs.List.{flat_map};
-ghost use Rattle.compose_drafts.specs.Message.{ended, header, hex_digit, hex_digits, ids_or_none, ids_text, optional, own_id};
+ghost use Rattle.compose_drafts.specs.Message.{header, hex_digit, hex_digits, ids_or_none, ids_text, optional, own_id};
 ghost use Rattle.compose_drafts.specs.Moments.{date_text};
 ghost use Rattle.compose_drafts.specs.Paragraphs.{coding_name};
 ghost use Rattle.compose_drafts.specs.References.{last_of_ids, references_of};
-ghost use Rattle.compose_drafts.specs.Texts.{written};
+ghost use Rattle.compose_drafts.specs.Texts.{ended, written};
 
 use crate::dates::push_date;
 use crate::parties::Parties;

@@ -1,10 +1,9 @@
-use Rattle.std.proofs.Common.{[]}
 use Rattle.std.specs.Prelude.{◌++◌, codes}
-use Rattle.compose_drafts.specs.Message.{ended, header, ids_or_none, optional, own_id}
+use Rattle.compose_drafts.specs.Message.{header, ids_or_none, optional, own_id}
 use Rattle.compose_drafts.specs.Moments.{date_text}
 use Rattle.compose_drafts.specs.Paragraphs.{coding_name}
 use Rattle.compose_drafts.specs.References.{last_of_ids, references_of}
-use Rattle.compose_drafts.specs.Texts.{written}
+use Rattle.compose_drafts.specs.Texts.{ended, written}
 use Rattle.compose_drafts.proofs.Steps.{whole_header}
 use Rattle.compose_drafts.proofs.fields.push_header.Goals as goal
 
