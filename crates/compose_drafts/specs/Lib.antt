@@ -5,3 +5,4 @@ pub mod References
 pub mod Moments
 pub mod Message
 pub mod Drafts
+pub mod Readers

@@ -9,11 +9,13 @@ mod boxes;
 mod building;
 mod dates;
 mod fields;
+mod laws;
 mod parties;
 mod references;
 mod words;
 
 pub use building::{build, build_draft};
+pub use laws::fields_are_read;
 use mail_values::Text;
 use std::alloc::AllocError;
 
