@@ -3,7 +3,7 @@
 use crate::work::{Input, result_of, work_named};
 use std::io::{self, Write};
 
-const CASES: [(&str, &str); 11] = [
+const CASES: [(&str, &str); 12] = [
     ("decode-quoted", "caf=c3=a9 =3d 1=\r\n0\n"),
     ("encode-base64", "one line of text"),
     (
@@ -23,6 +23,10 @@ const CASES: [(&str, &str); 11] = [
         "> quoted one \n> goes on\n>> deep\nplain \ntext\n stuffed\n-- \nsig\n",
     ),
     ("write-flowed", "a short text"),
+    (
+        "build",
+        "bob@d.example\0\0Caf\u{e9}\0<a@x> <b@y>\0Ann\0ann@c.example\0Hello",
+    ),
     ("tokens", "<p>a &amp; b</p><!-- c --><br/>"),
     ("print-tokens", "<a b=&lt c>&copy;\n====\n"),
     ("wash", "<p>a<script>b</script><p>c"),

@@ -7,6 +7,7 @@
 
 mod check;
 mod codings;
+mod drafts;
 mod flowed;
 mod parts;
 mod references;
@@ -24,7 +25,7 @@ use work::{Input, Work, perform, result_of, work_named};
 const USAGE: &str = "usage: bench WORK [TIMES]
        bench stream-base64|check
 works: decode-base64 decode-quoted encode-base64 encode-quoted tree refer[-below]
-       responses[-1|-64|-4096] read-flowed[-del-sp] write-flowed[-quoted] spans tags tokens print-tokens
+       responses[-1|-64|-4096] read-flowed[-del-sp] write-flowed[-quoted] build spans tags tokens print-tokens
        wash[-images|-below] print-wash";
 
 /// Writes the microseconds of each run to standard error, and then the result.

@@ -1,7 +1,7 @@
 //! The kinds of work, by their names on the command line.
 
 use crate::washing::Choice;
-use crate::{codings, flowed, parts, references, responses, tokens, washing};
+use crate::{codings, drafts, flowed, parts, references, responses, tokens, washing};
 use std::alloc::{AllocError, Global};
 use std::str::from_utf8;
 use transfer_codings::Coding;
@@ -18,6 +18,7 @@ pub enum Work {
     Responses { piece: usize },
     ReadFlowed { del_sp: bool },
     WriteFlowed { depth: u32 },
+    Build,
     Spans,
     Tags,
     Tokens,
@@ -59,6 +60,7 @@ pub fn work_named(word: &str) -> Option<Work> {
         "read-flowed-del-sp" => Some(Work::ReadFlowed { del_sp: true }),
         "write-flowed" => Some(Work::WriteFlowed { depth: 0 }),
         "write-flowed-quoted" => Some(Work::WriteFlowed { depth: 80 }),
+        "build" => Some(Work::Build),
         "spans" => Some(Work::Spans),
         "tags" => Some(Work::Tags),
         "tokens" => Some(Work::Tokens),
@@ -80,7 +82,7 @@ pub fn work_named(word: &str) -> Option<Work> {
     }
 }
 
-/// Does the work once, and returns how many bytes, parts, references, responses, paragraphs, spans, attributes, tokens or bytes of a page came of it.
+/// Does the work once, and returns how many bytes, parts, references, responses, paragraphs, spans, attributes, tokens or bytes of a page or a message came of it.
 pub fn perform(alloc: Global, work: Work, input: &Input<'_>) -> Result<usize, AllocError> {
     match work {
         Work::Decode(_) | Work::EncodeBase64 | Work::EncodeQuoted => {
@@ -91,6 +93,7 @@ pub fn perform(alloc: Global, work: Work, input: &Input<'_>) -> Result<usize, Al
         Work::Responses { piece } => responses::count_responses(alloc, input.bytes, piece),
         Work::ReadFlowed { del_sp } => flowed::count_paragraphs(alloc, input.text, del_sp),
         Work::WriteFlowed { depth } => flowed::written_len(alloc, input.text, depth),
+        Work::Build => Ok(drafts::built(alloc, input.text)?.len()),
         Work::Spans => Ok(tokens::count_spans(input.text)),
         Work::Tags => Ok(tokens::count_attributes(input.text)),
         Work::Tokens => tokens::count_tokens(alloc, input.text),
@@ -110,6 +113,7 @@ pub fn result_of(alloc: Global, work: Work, input: &Input<'_>) -> Result<Vec<u8>
         Work::Responses { piece } => {
             Ok(responses::list_counts(alloc, input.bytes, piece)?.into_bytes())
         }
+        Work::Build => drafts::built(alloc, input.text),
         Work::PrintTokens => Ok(tokens::print_tokens(alloc, input.text)?.into_bytes()),
         Work::PrintWash => washing::print_pages(alloc, input.text),
         Work::Refer { .. }

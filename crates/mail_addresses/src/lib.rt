@@ -11,6 +11,7 @@ pub use address::is_address;
 pub use boxes::mailboxes;
 use mail_values::Text;
 pub use reading::AddressFault;
+pub use runs::{skip_spaces, trim_end};
 
 /// A box of a list: the name before it, which is empty if there is none, and its `local@domain`.
 #[derive(Drop)]

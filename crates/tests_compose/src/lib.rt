@@ -3,3 +3,5 @@
 
 #[cfg(test)]
 mod addresses;
+#[cfg(test)]
+mod drafts;

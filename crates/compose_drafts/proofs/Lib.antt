@@ -1,0 +1,10 @@
+mod Examples
+pub mod Finished
+pub mod MomentLemmas
+pub mod Steps
+pub mod WordLemmas
+pub mod Unbroken
+pub mod WholeLines
+pub mod AddressLines
+pub mod BodyLines
+pub mod MessageLines
