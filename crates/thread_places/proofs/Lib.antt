@@ -1,0 +1,5 @@
+pub mod LinkLemmas
+pub mod ArenaLemmas
+pub mod NumberLemmas
+pub mod DateLemmas
+pub mod PlaceLemmas

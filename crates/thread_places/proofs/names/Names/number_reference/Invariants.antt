@@ -1,0 +1,4 @@
+use Rattle.thread_places.proofs.names.Names.number_reference.Given as goal
+
+abbrev pub ghost-add_id : goal.ghost-add_id
+ghost-add_id g a = g.known

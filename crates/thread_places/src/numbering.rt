@@ -1,0 +1,137 @@
+//! The nodes of messages and of those that they refer to.
+ghost use Rattle.std.specs.Prelude.{◌≡◌, ◌<◌, ◌≤◌, ℕ, List, [], ◌∷◌, ◌++◌, IfOk, OnOk, length, map, take, get_or};
+ghost use Rattle.thread_places.specs.Messages.{Entry, Name, References, Numbering, nodes, add_id, number_of, number_ids, add_numbered, number_message, number_messages};
+ghost use Rattle.thread_places.specs.Numbers.{HasNames, Known, Pending, IsNumbered, AreBelow, no_facts};
+
+use crate::facts::Facts;
+use crate::names::Names;
+use mail_values::Bytes;
+use std::alloc::{AllocError, Global};
+use std::marker::Model;
+
+/// A message: its node, and the nodes that it refers to.
+#[derive(Drop)]
+pub struct Numbered {
+    pub references: Vec<usize>,
+    pub node: usize,
+}
+
+impl Model for Numbered {
+    ghost use Rattle.thread_places.specs.Messages.{Entry};
+
+    ghost Value = { Entry };
+
+    ghost view = { λ m. record { references = m.references.items; node = m.node } };
+}
+
+impl Names {
+    fn number_reference(
+        &mut self,
+        alloc: Global,
+        references: &[Bytes],
+        i: usize,
+    ) -> Result<usize, AllocError>
+        ghost known: { Known }
+        requires names { HasNames known.names known.nodes self.old }
+        requires inside { i < length references.now }
+        ensures names { OnOk result (HasNames (add_id known.names (get_or references.now i [])) known.nodes self.new) }
+        ensures number { IfOk result (λ number. number ≡ number_of (add_id known.names (get_or references.now i [])) (get_or references.now i [])) }
+    {
+        self.add_id(alloc, references[i].as_slice())
+    }
+
+    /// Returns the numbers of the nodes that identifiers name.
+    fn number_references(
+        &mut self,
+        alloc: Global,
+        references: &[Bytes],
+    ) -> Result<Vec<usize>, AllocError>
+        ghost known: { Known }
+        requires names { HasNames known.names known.nodes self.old }
+        ensures names { OnOk result (HasNames (number_ids known.names references.now).names known.nodes self.new) }
+        ensures numbers { IfOk result (λ numbers. numbers.items ≡ (number_ids known.names references.now).numbers) }
+    {
+        let mut numbers = Vec::with_capacity(alloc, references.len())?;
+        for i in 0..references.len() {
+            numbers.push(self.number_reference(alloc, references, i)?)?;
+        }
+        Ok(numbers)
+    }
+}
+
+/// Messages whose nodes are numbered, and how many nodes there are.
+#[derive(Drop)]
+pub struct Messages {
+    pub entries: Vec<Numbered>,
+    pub node_count: usize,
+}
+
+/// Messages that are being numbered.
+#[derive(Drop)]
+struct Numberer {
+    names: Names,
+    entries: Vec<Numbered>,
+}
+
+impl Numberer {
+    fn new(alloc: Global) -> Self
+        ensures { IsNumbered (record { names = []; messages = [] }) result }
+    {
+        Numberer {
+            names: Names::new(alloc),
+            entries: Vec::new(alloc),
+        }
+    }
+
+    fn add(&mut self, alloc: Global, facts: &Facts) -> Result<(), AllocError>
+        ghost before: { Numbering }
+        requires { IsNumbered before self.old }
+        ensures { OnOk result (IsNumbered (number_message before facts.now) self.new) }
+    {
+        let references = self
+            .names
+            .number_references(alloc, facts.references.as_slice())?;
+        self.add_entry(alloc, facts, references)
+    }
+
+    fn add_entry(
+        &mut self,
+        alloc: Global,
+        facts: &Facts,
+        references: Vec<usize>,
+    ) -> Result<(), AllocError>
+        ghost pending: { Pending }
+        requires names { HasNames pending.references.names (nodes pending.messages) self.old.names }
+        requires entries { self.old.entries.items ≡ pending.messages }
+        requires references { references.items ≡ pending.references.numbers }
+        ensures { OnOk result (IsNumbered (add_numbered pending.messages pending.references facts.now.id) self.new) }
+    {
+        let node = self.names.number_message(alloc, &facts.id)?;
+        self.entries.push(Numbered { references, node })?;
+        Ok(())
+    }
+
+    fn add_facts(&mut self, alloc: Global, facts: &[Facts], i: usize) -> Result<(), AllocError>
+        ghost before: { Numbering }
+        requires holds { IsNumbered before self.old }
+        requires inside { i < length facts.now }
+        ensures { OnOk result (IsNumbered (number_message before (get_or facts.now i no_facts)) self.new) }
+    {
+        self.add(alloc, &facts[i])
+    }
+}
+
+/// Numbers the nodes of messages and of those that they refer to.
+pub fn number_messages(alloc: Global, facts: &[Facts]) -> Result<Messages, AllocError>
+    ensures entries { IfOk result (λ m. m.entries.items ≡ (number_messages facts.now).messages) }
+    ensures inside { IfOk result (λ m. AreBelow m.node_count m.entries.items) }
+{
+    let mut numberer = Numberer::new(alloc);
+    for i in 0..facts.len() {
+        numberer.add_facts(alloc, facts, i)?;
+    }
+    Ok(Messages {
+        node_count: numberer.names.len(),
+        entries: numberer.entries,
+    })
+}

@@ -1,0 +1,4 @@
+pub mod Examples
+pub mod TreeLemmas
+pub mod CountLemmas
+pub mod ListingLemmas

@@ -1,0 +1,4 @@
+pub mod Trees
+pub mod Subjects
+pub mod Counts
+pub mod Listing

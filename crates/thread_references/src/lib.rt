@@ -1,0 +1,11 @@
+//! Threads of messages by their references and subjects (RFC 5256, REFERENCES).
+#![tactic(auto)]
+
+mod forest;
+mod listing;
+mod pruning;
+mod subjects;
+mod trees;
+
+pub use forest::{Forest, threads};
+pub use thread_places::Facts;
