@@ -2,4 +2,3 @@ mod FolderLemmas
 mod TagLemmas
 mod ViewLemmas
 mod ViewExamples
-mod ResultExamples

@@ -2,6 +2,5 @@ pub mod Applied
 pub mod Events
 pub mod Fetched
 pub mod Fetches
-pub mod Results
 pub mod Selections
 pub mod View

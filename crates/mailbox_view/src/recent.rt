@@ -5,7 +5,7 @@ ghost use Rattle.std.specs.Str.{bytes_eq};
 ghost use Rattle.imap_commands.specs.UidSets.{contains_uid};
 ghost use Rattle.mailbox_rows.specs.Rows.{without};
 ghost use Rattle.mailbox_rows.specs.Mailboxes.{MailboxState, with_rows, emptied, renewed, raised};
-ghost use Rattle.mailbox_view.specs.Selections.{found, others, moved, is_first, is_other, nth_box, box_named, with_concerned};
+ghost use Rattle.mailbox_view.specs.Selections.{found, others, moved, is_first, is_other, nth_box, concerned_box, box_named, with_concerned};
 ghost use Rattle.mailbox_view.specs.Fetches.{AppliesFetchAt};
 
 use crate::fetched::apply_fetch;
@@ -54,6 +54,29 @@ pub fn first(folders: &[Mailbox]) -> Option<&Mailbox>
     match folders {
         [folder, ..] => Some(folder),
         [] => None,
+    }
+}
+
+/// The folder at a place.
+pub fn concerned(folders: &[Mailbox], place: Option<usize>) -> Option<&Mailbox>
+    ensures some { IfSome result (λ folder. concerned_box place folders.now ≡ Some folder.now) }
+    ensures none { IfNone result (concerned_box place folders.now ≡ None) }
+{
+    match place {
+        Some(n) => nth(folders, n),
+        None => None,
+    }
+}
+
+#[tactic(auto, using(crate::proofs::FolderLemmas::box_there, crate::proofs::FolderLemmas::nth_past))]
+fn nth(folders: &[Mailbox], n: usize) -> Option<&Mailbox>
+    ensures some { IfSome result (λ folder. nth_box n folders.now ≡ Some folder.now) }
+    ensures none { IfNone result (nth_box n folders.now ≡ None) }
+{
+    if n < folders.len() {
+        Some(&folders[n])
+    } else {
+        None
     }
 }
 

@@ -6,11 +6,11 @@ ghost use Rattle.imap_grammar.specs.Response.{data_of};
 ghost use Rattle.mailbox_view.specs.Applied.{AppliesAs};
 ghost use Rattle.mailbox_view.specs.Fetched.{fields_of};
 ghost use Rattle.mailbox_view.specs.View.{empty_view, after_dial, begun, with_select, with_select_soon, with_quotable, with_command, after_said, after_plus, after_code, after_ok, after_no, after_answer, after_tagged, after_capability, after_enabled, after_list, after_fetch, after_fetched, told, after_response, awaited_of_new, after_closed, is_tag, is_awaiting, selected_box, lacking_capability, lacking_enabled, lacking_selected, excess_fetched, excess_told, excess};
-ghost use Rattle.mailbox_view.specs.Selections.{box_named};
+ghost use Rattle.mailbox_view.specs.Selections.{box_named, concerned_box};
 
 use crate::fetched::{copy_words, read_fields};
 use crate::recent::{
-    apply_fetch_at, find, first, forget_at, is_first, move_to_front, raise_mark_at,
+    apply_fetch_at, concerned, find, first, forget_at, is_first, move_to_front, raise_mark_at,
     set_validity_at, vanish_at,
 };
 use crate::tags::{is_quotable, is_tag};
@@ -105,6 +105,21 @@ impl View {
         self.number
     }
 
+    /// The folder that responses concern: within a SELECT that leaves a folder the old one up to CLOSED.
+    pub fn concerned(&self) -> Option<&Mailbox>
+        ensures some { IfSome result (λ folder. concerned_box self.now.selection.concerned self.now.boxes ≡ Some folder.now) }
+        ensures none { IfNone result (concerned_box self.now.selection.concerned self.now.boxes ≡ None) }
+    {
+        concerned(&self.recent, self.selection.concerned)
+    }
+
+    /// Whether a tag is that of the last command.
+    pub fn has_tag(&self, tag: &[u8]) -> bool
+        ensures { result ≡ is_tag tag.now self.now.number }
+    {
+        is_tag(tag, self.number)
+    }
+
     /// Whether a command awaits its answer.
     pub fn is_awaiting(&self) -> bool
         ensures { result ≡ is_awaiting self.now.awaited }
@@ -183,7 +198,8 @@ impl View {
         self.await_answer(command)
     }
 
-    fn begin(&mut self) -> Result<(), Memory>
+    /// Takes note that the first piece of a command was said, with the next number in its tag, whatever it is.
+    pub fn begin(&mut self) -> Result<(), Memory>
         ensures { OnOk result (self.new ≡ begun self.old) }
     {
         if self.number == u32::MAX {
@@ -197,7 +213,8 @@ impl View {
         Ok(())
     }
 
-    fn await_answer(&mut self, command: &Command) -> Result<(), Memory>
+    /// Takes note of what the answer to the command that began last will mean.
+    pub fn await_answer(&mut self, command: &Command) -> Result<(), Memory>
         ensures { OnOk result (self.new ≡ with_command command.now self.old) }
     {
         match command {
@@ -228,7 +245,8 @@ impl View {
         }
     }
 
-    fn select(&mut self, name: &[u8]) -> Result<(), Memory>
+    /// Begins the selection of a folder, whatever the answer will be.
+    pub fn select(&mut self, name: &[u8]) -> Result<(), Memory>
         ensures { OnOk result (self.new ≡ with_select name.now self.old) }
     {
         self.selection.select(is_first(&self.recent, name));
@@ -238,7 +256,8 @@ impl View {
         Ok(())
     }
 
-    fn select_soon(&mut self, name: &[u8]) -> Result<(), Memory>
+    /// Takes note that a SELECT waits for the server's `+`. If it ends before, no folder is selected.
+    pub fn select_soon(&mut self, name: &[u8]) -> Result<(), Memory>
         ensures { OnOk result (self.new ≡ with_select_soon name.now self.old) }
     {
         self.soon = Bytes::from_slice(self.alloc, name)?;

@@ -1,0 +1,6 @@
+pub mod Examples
+pub mod PassLemmas
+pub mod PieceLemmas
+pub mod CommandLemmas
+pub mod ReadLemmas
+pub mod VerbLemmas

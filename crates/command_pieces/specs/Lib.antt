@@ -1,0 +1,4 @@
+pub mod Asking
+pub mod Spoken
+pub mod Verbs
+pub mod ReadBack
