@@ -4,6 +4,8 @@
 #[cfg(test)]
 mod links;
 #[cfg(test)]
+mod listening;
+#[cfg(test)]
 mod rows;
 #[cfg(test)]
 mod views;

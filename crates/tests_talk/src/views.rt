@@ -123,7 +123,7 @@ static LACKS: [(&str, &str); 6] = [
 const OPENING: &str =
     "fresh|>select INBOX|* OK [UIDVALIDITY 8] x|* OK [HIGHESTMODSEQ 20] x|A1 OK x|>new 1|row 7 4|row 5 3|A2 OK x";
 
-fn command_of(alloc: Global, text: &str) -> Result<Command, Memory> {
+pub fn command_of(alloc: Global, text: &str) -> Result<Command, Memory> {
     let (name, rest) = text.split_once(' ').unwrap_or((text, ""));
     let number = rest.parse::<u32>().unwrap_or(0);
     Ok(match name {
@@ -137,6 +137,13 @@ fn command_of(alloc: Global, text: &str) -> Result<Command, Memory> {
         "new" => Command::FetchNew { from: number },
         "changed" => Command::FetchChanged { mark: 20 },
         "body" => Command::FetchBody { uid: number },
+        "search" => Command::Search {
+            words: Text::from_text(alloc, rest)?,
+        },
+        "login" => Command::Login {
+            user: Text::from_text(alloc, rest)?,
+            password: Text::from_text(alloc, "x")?,
+        },
         _ => Command::Noop,
     })
 }
@@ -186,7 +193,7 @@ fn show_mailbox(text: &mut String, folder: &Mailbox) -> Result<(), Memory> {
     write!(text, " mark {mark}")
 }
 
-fn show(alloc: Global, view: &View) -> Result<String, Memory> {
+pub fn show(alloc: Global, view: &View) -> Result<String, Memory> {
     let mut text = String::new(alloc);
     for name in NAMES {
         if let Some(folder) = view.mailbox(name.as_bytes()) {
