@@ -9,9 +9,11 @@ mod check;
 mod codings;
 mod drafts;
 mod flowed;
+mod hearing;
 mod parts;
 mod references;
 mod responses;
+mod threads;
 mod tokens;
 mod washing;
 mod work;
@@ -25,8 +27,8 @@ use work::{Input, Work, perform, result_of, work_named};
 const USAGE: &str = "usage: bench WORK [TIMES]
        bench stream-base64|check
 works: decode-base64 decode-quoted encode-base64 encode-quoted tree refer[-below]
-       responses[-1|-64|-4096] read-flowed[-del-sp] write-flowed[-quoted] build spans tags tokens print-tokens
-       wash[-images|-below] print-wash";
+       responses[-1|-64|-4096] hear[-1|-64|-65536] read-flowed[-del-sp] write-flowed[-quoted] build spans tags tokens print-tokens
+       wash[-images|-below] print-wash read-facts threads list-threads print-threads";
 
 /// Writes the microseconds of each run to standard error, and then the result.
 fn run(rt: &HostRuntime, work: Work, times: u32) -> io::Result<()> {

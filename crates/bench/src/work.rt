@@ -1,7 +1,9 @@
 //! The kinds of work, by their names on the command line.
 
 use crate::washing::Choice;
-use crate::{codings, drafts, flowed, parts, references, responses, tokens, washing};
+use crate::{
+    codings, drafts, flowed, hearing, parts, references, responses, threads, tokens, washing,
+};
 use std::alloc::{AllocError, Global};
 use std::str::from_utf8;
 use transfer_codings::Coding;
@@ -16,6 +18,8 @@ pub enum Work {
     Refer { below_base: bool },
     /// Responses of a stream that comes in pieces of this many bytes.
     Responses { piece: usize },
+    /// The answer to a fetch of all messages of a folder, heard in pieces of this many bytes.
+    Hear { piece: usize },
     ReadFlowed { del_sp: bool },
     WriteFlowed { depth: u32 },
     Build,
@@ -25,6 +29,10 @@ pub enum Work {
     PrintTokens,
     Wash(Choice),
     PrintWash,
+    ReadFacts,
+    Threads,
+    ListThreads,
+    PrintThreads,
 }
 
 /// The input as bytes and, if it is UTF-8, as text; the text of other input is empty.
@@ -56,6 +64,10 @@ pub fn work_named(word: &str) -> Option<Work> {
         "responses-4096" => Some(Work::Responses { piece: 4096 }),
         "responses-64" => Some(Work::Responses { piece: 64 }),
         "responses-1" => Some(Work::Responses { piece: 1 }),
+        "hear" => Some(Work::Hear { piece: usize::MAX }),
+        "hear-65536" => Some(Work::Hear { piece: 65_536 }),
+        "hear-64" => Some(Work::Hear { piece: 64 }),
+        "hear-1" => Some(Work::Hear { piece: 1 }),
         "read-flowed" => Some(Work::ReadFlowed { del_sp: false }),
         "read-flowed-del-sp" => Some(Work::ReadFlowed { del_sp: true }),
         "write-flowed" => Some(Work::WriteFlowed { depth: 0 }),
@@ -78,11 +90,15 @@ pub fn work_named(word: &str) -> Option<Work> {
             below_base: true,
         })),
         "print-wash" => Some(Work::PrintWash),
+        "read-facts" => Some(Work::ReadFacts),
+        "threads" => Some(Work::Threads),
+        "list-threads" => Some(Work::ListThreads),
+        "print-threads" => Some(Work::PrintThreads),
         _ => None,
     }
 }
 
-/// Does the work once, and returns how many bytes, parts, references, responses, paragraphs, spans, attributes, tokens or bytes of a page or a message came of it.
+/// Does the work once, and returns how many bytes, parts, references, responses, rows, paragraphs, spans, attributes, tokens, facts, roots of threads or bytes of a page or a message came of it.
 pub fn perform(alloc: Global, work: Work, input: &Input<'_>) -> Result<usize, AllocError> {
     match work {
         Work::Decode(_) | Work::EncodeBase64 | Work::EncodeQuoted => {
@@ -91,6 +107,7 @@ pub fn perform(alloc: Global, work: Work, input: &Input<'_>) -> Result<usize, Al
         Work::Tree => parts::count_parts(alloc, input.bytes),
         Work::Refer { below_base } => references::count_references(alloc, input.text, below_base),
         Work::Responses { piece } => responses::count_responses(alloc, input.bytes, piece),
+        Work::Hear { piece } => hearing::count_rows(alloc, input.bytes, piece),
         Work::ReadFlowed { del_sp } => flowed::count_paragraphs(alloc, input.text, del_sp),
         Work::WriteFlowed { depth } => flowed::written_len(alloc, input.text, depth),
         Work::Build => Ok(drafts::built(alloc, input.text)?.len()),
@@ -100,6 +117,10 @@ pub fn perform(alloc: Global, work: Work, input: &Input<'_>) -> Result<usize, Al
         Work::PrintTokens => Ok(tokens::print_tokens(alloc, input.text)?.len()),
         Work::Wash(choice) => washing::washed_len(alloc, input.text, choice),
         Work::PrintWash => Ok(washing::print_pages(alloc, input.text)?.len()),
+        Work::ReadFacts => threads::count_facts(alloc, input.text),
+        Work::Threads => threads::count_roots(alloc, input.text),
+        Work::ListThreads => threads::count_rows(alloc, input.text),
+        Work::PrintThreads => Ok(threads::list_threads(alloc, input.text)?.len()),
     }
 }
 
@@ -116,13 +137,18 @@ pub fn result_of(alloc: Global, work: Work, input: &Input<'_>) -> Result<Vec<u8>
         Work::Build => drafts::built(alloc, input.text),
         Work::PrintTokens => Ok(tokens::print_tokens(alloc, input.text)?.into_bytes()),
         Work::PrintWash => washing::print_pages(alloc, input.text),
+        Work::PrintThreads => Ok(threads::list_threads(alloc, input.text)?.into_bytes()),
         Work::Refer { .. }
         | Work::ReadFlowed { .. }
         | Work::WriteFlowed { .. }
         | Work::Spans
         | Work::Tags
         | Work::Tokens
-        | Work::Wash(_) => {
+        | Work::Wash(_)
+        | Work::Hear { .. }
+        | Work::ReadFacts
+        | Work::Threads
+        | Work::ListThreads => {
             let count = perform(alloc, work, input)?;
             Ok(format!(in alloc; "{count}\n")?.into_bytes())
         }
