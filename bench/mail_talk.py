@@ -23,7 +23,7 @@ def answer():
     units = []
     for uid in range(1, ROWS + 1):
         header = f"Date: Mon, 30 Nov 2026 10:00:00 +0000\r\nSubject: {uid}\r\n"
-        header += "References: <" + "x" * (HEADER - len(header) - 17) + ">\r\n\r\n"
+        header += "References: <" + "x" * (HEADER - len(header) - 18) + ">\r\n\r\n"
         assert len(header) == HEADER
         units.append(f'* {uid} FETCH (FLAGS (\\Seen $Junk) UID {uid} INTERNALDATE " 1-Dec-2026 09:36:42 +0000" MODSEQ ({uid + 9}) RFC822.SIZE 4711'
                      f" BODY[HEADER.FIELDS (DATE SUBJECT REFERENCES)] {{{HEADER}}}\r\n{header})\r\n")
