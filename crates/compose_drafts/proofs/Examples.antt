@@ -13,7 +13,7 @@ use Rattle.mail_addresses.specs.Runs.{is_local}
 use Rattle.mail_addresses.specs.Boxes.{address_at, angle_at, bare_at, box_at, boxes_of, boxes_within, domain_at, is_address, spaced_box_at, unquoted_box_at}
 use Rattle.site_asks.specs.declared.Draft.{Draft}
 use Rattle.compose_drafts.specs.declared.DraftFault.TheVariants as faults
-use Rattle.compose_drafts.specs.Drafts.{parties_of, recipients_of, sent_parties_of, saved_parties_of, sender_of}
+use Rattle.compose_drafts.specs.Drafts.{limit, parties_of, recipients_of, sent_parties_of, saved_parties_of, sender_of}
 use Rattle.compose_drafts.specs.declared.parties.Parties.{Parties}
 use Rattle.compose_drafts.specs.Message.{header, hex_digits, message}
 use Rattle.compose_drafts.specs.Moments.{date_text}
@@ -187,3 +187,7 @@ last_twenty = refl
 not_written : references_of (60 ∷ replicate 199 97 ++ codes "@x><" ++ 127 ∷ codes "@x><b@y>") ≡ codes "b@y" ∷ []
 unfolding references_of ids_in
 not_written = refl
+
+-- the longest text of a draft
+limit_is_a_number : limit ≡ 524_288
+limit_is_a_number = refl

@@ -31,7 +31,7 @@ use Rattle.mail_talk.specs.declared.phase.Phase.{Phase}
 use Rattle.mail_talk.specs.declared.phase.Phase.TheVariants as phase
 use Rattle.mail_talk.specs.declared.results.FetchedBody.{FetchedBody}
 use Rattle.mail_talk.specs.Results.{nothing_found, uids_of}
-use Rattle.mail_talk.specs.Units.{TalkState, heard_count, take_units, drained, after_heard}
+use Rattle.mail_talk.specs.Units.{TalkState, heard_count, heard_limit, take_units, drained, after_heard}
 use Rattle.mail_talk.specs.Told.{Talk, after_piece, told_of}
 
 -- ---- what is said and heard
@@ -239,3 +239,7 @@ body_unasked = refl
 
 body_asked_again : body_of (only_piece (command.FetchBody 7) (opened (heard (Tagged (codes "A2") words.Ok None []) 0 (heard (body 7 (Some (codes "x"))) 0 fetch)))) ≡ None
 body_asked_again = refl
+
+-- the bytes of one command: 32 MiB
+limit_is_a_number : heard_limit ≡ 33_554_432
+limit_is_a_number = refl

@@ -19,6 +19,10 @@ pub record TalkState : Type 0 where
 abbrev pub heard_count : TalkState → ℕ
 heard_count s = (s.at + length s.rest) - s.from
 
+-- the bytes of one command at which whoever listens stops
+abbrev pub heard_limit : ℕ
+heard_limit = 33554432
+
 abbrev pub with_rest : List ℕ → TalkState → TalkState
 with_rest rest s = record { told = s.told; rest = rest; at = s.at; from = s.from }
 

@@ -11,7 +11,7 @@ mod unit;
 
 pub use answer::{Answer, Excess};
 pub use laws::{any_cut, pieces_tell};
-pub use listener::{LIMIT, Listener};
+pub use listener::Listener;
 pub use phase::Phase;
 pub use results::{Asked, FetchedBody, Results};
 pub use std::alloc::AllocError as Memory;

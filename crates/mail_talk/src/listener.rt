@@ -1,9 +1,9 @@
 //! Follows a talk with a mail server.
-ghost use Rattle.std.specs.Prelude.{◌≡◌, ◌++◌, [], true, OnOk};
+ghost use Rattle.std.specs.Prelude.{◌≡◌, ◌++◌, [], nat_le, true, OnOk};
 ghost use Rattle.command_pieces.specs.Verbs.{verb_of_command};
 ghost use Rattle.mail_talk.specs.States.{nothing_told, is_listening};
 ghost use Rattle.mail_talk.specs.Taking.{TakesNext};
-ghost use Rattle.mail_talk.specs.Units.{heard_count, after_heard, drained, with_rest};
+ghost use Rattle.mail_talk.specs.Units.{heard_count, heard_limit, after_heard, drained, with_rest};
 ghost use Rattle.mail_talk.specs.Talks.{after_dialled, after_began, after_said, after_went_on, after_completed, if_idle, if_piece};
 
 use crate::Told;
@@ -16,7 +16,7 @@ use std::alloc::Global;
 use std::marker::Model;
 
 /// The greatest number of bytes that are heard for one command.
-pub const LIMIT: u64 = 33_554_432;
+const LIMIT: u64 = 33_554_432;
 
 /// Follows a talk with a mail server: it is given each dial, each piece of a command that was said, and all bytes that were heard, in order.
 #[derive(Drop)]
@@ -75,6 +75,13 @@ impl Listener {
         ensures { result ≡ heard_count self.now }
     {
         self.at + self.waiting - self.from
+    }
+
+    /// Returns whether so many bytes were heard for the command that whoever listens should stop.
+    pub fn has_reached_limit(&self) -> bool
+        ensures { result ≡ nat_le heard_limit (heard_count self.now) }
+    {
+        self.heard_count() >= LIMIT
     }
 
     /// Takes note of a dial. A fresh one forgets all.

@@ -322,6 +322,7 @@ fn body_heard_in_any_two_pieces(rt: HostRuntime) -> Result<(), Fail> {
             "Answer body of 7 is a\r\n)b: INBOX 8: 5=3 7=4 mark 20 selected"
         );
         assert_eq!(rt; client.listener.heard_count(), 37);
+        assert!(rt; !client.listener.has_reached_limit());
     }
     Ok(())
 }
