@@ -3,7 +3,8 @@
 
 Build the program first, by `tools/build bench`. Then run this file, from anywhere, with the number of runs of each measurement (7 by
 default). A row has the least time of those runs for each size, in nanoseconds per byte of the field, and the memory of the program per byte
-of the larger field. If the larger field takes more than twice the time per byte, the row says so, and the exit status is 1.
+of the larger field. If the larger field takes more than twice the time per byte, and more than 20 milliseconds, the row says so, and the exit
+status is 1: less time is too short to tell.
 """
 import os
 import subprocess
