@@ -1,8 +1,13 @@
-//! What a member asks of the site.
+//! What a member asks of the site, and what it replies.
 #![tactic(auto)]
 
+pub mod asks;
+pub mod replies;
+
 use account_pictures::Address;
+pub use asks::{Ask, Flag, How};
 use mail_values::Text;
+pub use replies::{Kind, Reply};
 
 /// A message that a member writes, as the fields of its form have it.
 #[derive(Drop)]
