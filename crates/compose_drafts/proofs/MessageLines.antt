@@ -212,11 +212,9 @@ saved_lines draft identity =
 
 -- ---- the message
 
-all_fields : (a b c d e f g h i j k : List (List ℕ)) → AreFields a → AreFields b → AreFields c → AreFields d → AreFields e → AreFields f → AreFields g → AreFields h → AreFields i → AreFields j → AreFields k
-    → AreFields (a ++ b ++ c ++ d ++ e ++ f ++ g ++ h ++ i ++ j ++ k)
-all_fields a b c d e f g h i j k a' b' c' d' e' f' g' h' i' j' k' =
-    fields_join (a ++ b ++ c ++ d ++ e ++ f ++ g ++ h ++ i ++ j) k (fields_join (a ++ b ++ c ++ d ++ e ++ f ++ g ++ h ++ i) j (fields_join (a ++ b ++ c ++ d ++ e ++ f ++ g ++ h) i (fields_join (a ++ b ++ c ++ d ++ e ++ f ++ g) h
-    (fields_join (a ++ b ++ c ++ d ++ e ++ f) g (fields_join (a ++ b ++ c ++ d ++ e) f (fields_join (a ++ b ++ c ++ d) e (fields_join (a ++ b ++ c) d (fields_join (a ++ b) c (fields_join a b a' b') c') d') e') f') g') h') i') j') k'
+all_fields : (a b c d e f g h : List (List ℕ)) → AreFields a → AreFields b → AreFields c → AreFields d → AreFields e → AreFields f → AreFields g → AreFields h → AreFields (a ++ b ++ c ++ d ++ e ++ f ++ g ++ h)
+all_fields a b c d e f g h a' b' c' d' e' f' g' h' =
+    fields_join (a ++ b ++ c ++ d ++ e ++ f ++ g) h (fields_join (a ++ b ++ c ++ d ++ e ++ f) g (fields_join (a ++ b ++ c ++ d ++ e) f (fields_join (a ++ b ++ c ++ d) e (fields_join (a ++ b ++ c) d (fields_join (a ++ b) c (fields_join a b a' b') c') d') e') f') g') h'
 
 date_line : (clock : DateTime) → is_line (date_text clock) ≡ true
 unfolding date_text
@@ -230,21 +228,47 @@ coding_line : (seven_bit : Bool) → is_line (codes "Content-Transfer-Encoding: 
 coding_line true = refl
 coding_line false = refl
 
-header_lines : (draft : Draft) (parties : Parties) (clock : DateTime) (seven_bit : Bool) → HavePartyLines parties → AreFields (header draft parties clock seven_bit)
+-- the fields before those of the body's form
+abbrev pub front : Draft → Parties → DateTime → List (List ℕ)
+front draft parties clock =
+    (codes "Date: " ++ date_text clock) ∷ [] ++ optional (codes "From: ") parties.from ++ optional (codes "To: ") parties.to ++ optional (codes "Cc: ") parties.cc ++ (codes "Subject: " ++ written draft.subject) ∷ []
+    ++ optional (codes "In-Reply-To: ") (ids_or_none (last_of_ids 1 (references_of draft.refs))) ++ optional (codes "References: ") (ids_or_none (references_of draft.refs)) ++ (codes "Message-ID: " ++ own_id draft.form parties.domain) ∷ []
+
+-- the fields of the body's form
+abbrev pub form : Bool → List (List ℕ)
+form seven_bit = codes "MIME-Version: 1.0" ∷ codes "Content-Type: text/plain; charset=utf-8; format=flowed" ∷ (codes "Content-Transfer-Encoding: " ++ coding_name seven_bit) ∷ []
+
+pub header_split : (draft : Draft) (parties : Parties) (clock : DateTime) (seven_bit : Bool) → header draft parties clock seven_bit ≡ front draft parties clock ++ form seven_bit
 unfolding header
-header_lines draft parties clock seven_bit h =
+header_split draft parties clock seven_bit =
+    let first : List (List ℕ) = front draft parties clock in
+    let version : List ℕ = codes "MIME-Version: 1.0" in
+    let kind : List ℕ = codes "Content-Type: text/plain; charset=utf-8; format=flowed" in
+    let coding : List ℕ = codes "Content-Transfer-Encoding: " ++ coding_name seven_bit in
+    ap (λ fields. fields ++ coding ∷ []) (append_assoc first (version ∷ []) (kind ∷ [])) ∙ append_assoc first (version ∷ kind ∷ []) (coding ∷ [])
+
+pub front_lines : (draft : Draft) (parties : Parties) (clock : DateTime) → HavePartyLines parties → AreFields (front draft parties clock)
+front_lines draft parties clock h =
     all_fields ((codes "Date: " ++ date_text clock) ∷ []) (optional (codes "From: ") parties.from) (optional (codes "To: ") parties.to) (optional (codes "Cc: ") parties.cc) ((codes "Subject: " ++ written draft.subject) ∷ [])
     (optional (codes "In-Reply-To: ") (ids_or_none (last_of_ids 1 (references_of draft.refs)))) (optional (codes "References: ") (ids_or_none (references_of draft.refs)))
-    ((codes "Message-ID: " ++ own_id draft.form parties.domain) ∷ []) (codes "MIME-Version: 1.0" ∷ []) (codes "Content-Type: text/plain; charset=utf-8; format=flowed" ∷ []) ((codes "Content-Transfer-Encoding: " ++ coding_name seven_bit) ∷ [])
+    ((codes "Message-ID: " ++ own_id draft.form parties.domain) ∷ [])
     (line_field (codes "Date: ") (date_text clock) refl (joined (codes "Date: ") (date_text clock) refl (date_line clock)))
     (optional_field (codes "From: ") parties.from h.from) (optional_field (codes "To: ") parties.to h.to) (optional_field (codes "Cc: ") parties.cc h.copied)
     (line_field (codes "Subject: ") (written draft.subject) refl (joined (codes "Subject: ") (written draft.subject) refl (written_unbroken draft.subject)))
     (ids_field (codes "In-Reply-To: ") refl refl (last_of_ids 1 (references_of draft.refs)) (all_drop is_writable _ (references_of draft.refs) (references_writable draft.refs)))
     (ids_field (codes "References: ") refl refl (references_of draft.refs) (references_writable draft.refs))
     (line_field (codes "Message-ID: ") (own_id draft.form parties.domain) refl (joined (codes "Message-ID: ") (own_id draft.form parties.domain) refl (own_line draft.form parties.domain h.domain)))
-    (line_field (codes "MIME-Version:") (codes " 1.0") refl refl)
-    (line_field (codes "Content-Type:") (codes " text/plain; charset=utf-8; format=flowed") refl refl)
+
+form_lines : (seven_bit : Bool) → AreFields (form seven_bit)
+form_lines seven_bit =
+    fields_join (codes "MIME-Version: 1.0" ∷ codes "Content-Type: text/plain; charset=utf-8; format=flowed" ∷ []) ((codes "Content-Transfer-Encoding: " ++ coding_name seven_bit) ∷ [])
+    (fields_join (codes "MIME-Version: 1.0" ∷ []) (codes "Content-Type: text/plain; charset=utf-8; format=flowed" ∷ []) (line_field (codes "MIME-Version:") (codes " 1.0") refl refl)
+    (line_field (codes "Content-Type:") (codes " text/plain; charset=utf-8; format=flowed") refl refl))
     (line_field (codes "Content-Transfer-Encoding: ") (coding_name seven_bit) refl (coding_line seven_bit))
+
+pub header_lines : (draft : Draft) (parties : Parties) (clock : DateTime) (seven_bit : Bool) → HavePartyLines parties → AreFields (header draft parties clock seven_bit)
+header_lines draft parties clock seven_bit h =
+    subst AreFields (sym (header_split draft parties clock seven_bit)) (fields_join (front draft parties clock) (form seven_bit) (front_lines draft parties clock h) (form_lines seven_bit))
 
 message_lines : (draft : Draft) (parties : Parties) (clock : DateTime) → HavePartyLines parties → IsLines (message draft parties clock)
 unfolding message
