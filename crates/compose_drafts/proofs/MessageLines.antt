@@ -50,7 +50,7 @@ month_line n =
     all_get is_line (codes "Jan" ∷ codes "Feb" ∷ codes "Mar" ∷ codes "Apr" ∷ codes "May" ∷ codes "Jun" ∷ codes "Jul" ∷ codes "Aug" ∷ codes "Sep" ∷ codes "Oct" ∷ codes "Nov" ∷ []) (n - 1) (codes "Dec") refl refl
 
 -- lines in a row
-joined : (a b : List ℕ) → is_line a ≡ true → is_line b ≡ true → is_line (a ++ b) ≡ true
+pub joined : (a b : List ℕ) → is_line a ≡ true → is_line b ≡ true → is_line (a ++ b) ≡ true
 joined a b x y = all_append is_unbroken a b x y
 
 date_parts : (weekday day month year hour minute second : List ℕ) → is_line weekday ≡ true → is_line day ≡ true → is_line month ≡ true → is_line year ≡ true → is_line hour ≡ true → is_line minute ≡ true → is_line second ≡ true
@@ -70,7 +70,7 @@ hex_line (suc count) number = joined (hex_digits count (number / 16)) (hex_digit
   | inr e ↦ rw e (above (87 + number % 16) (omega arith))
 ]) refl)
 
-own_line : (form : ℕ) (domain : List ℕ) → is_line domain ≡ true → is_line (own_id form domain) ≡ true
+pub own_line : (form : ℕ) (domain : List ℕ) → is_line domain ≡ true → is_line (own_id form domain) ≡ true
 own_line form domain d = angles_unbroken (hex_digits 16 form ++ 64 ∷ domain) (joined (hex_digits 16 form) (64 ∷ domain) (hex_line 16 form) d)
 
 -- ---- identifiers
@@ -84,13 +84,13 @@ writable_line id e = angles_unbroken id (all_weaker is_visible is_unbroken visib
 abbrev AreWritable : List (List ℕ) → Type 0
 AreWritable ids = list_all is_writable ids ≡ true
 
-ids_field : (name : List ℕ) → begins_field name ≡ true → is_line name ≡ true → (ids : List (List ℕ)) → AreWritable ids → AreFields (optional name (ids_or_none ids))
+pub ids_field : (name : List ℕ) → begins_field name ≡ true → is_line name ≡ true → (ids : List (List ℕ)) → AreWritable ids → AreFields (optional name (ids_or_none ids))
 ids_field name b h ids each = elim (cases_Bool (length ids == 0)) [
   | inl e ↦ rw e no_fields
   | inr e ↦ rw e (joined_field in_angles name [] b h refl ids (all_weaker is_writable (λ id. is_line (in_angles id)) writable_line ids each))
 ]
 
-references_writable : (refs : List ℕ) → AreWritable (references_of refs)
+pub references_writable : (refs : List ℕ) → AreWritable (references_of refs)
 unfolding references_of
 references_writable refs = all_drop is_writable _ (filter is_writable (ids_in refs)) (all_filter is_writable (ids_in refs))
 
@@ -216,7 +216,7 @@ all_fields : (a b c d e f g h : List (List ℕ)) → AreFields a → AreFields b
 all_fields a b c d e f g h a' b' c' d' e' f' g' h' =
     fields_join (a ++ b ++ c ++ d ++ e ++ f ++ g) h (fields_join (a ++ b ++ c ++ d ++ e ++ f) g (fields_join (a ++ b ++ c ++ d ++ e) f (fields_join (a ++ b ++ c ++ d) e (fields_join (a ++ b ++ c) d (fields_join (a ++ b) c (fields_join a b a' b') c') d') e') f') g') h'
 
-date_line : (clock : DateTime) → is_line (date_text clock) ≡ true
+pub date_line : (clock : DateTime) → is_line (date_text clock) ≡ true
 unfolding date_text
 date_line clock =
     let day : ℕ = weekday_of clock.date in

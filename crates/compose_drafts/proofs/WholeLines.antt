@@ -55,7 +55,7 @@ and_no true b e = e
 and_no false b e = refl
 
 -- a line that begins with a space begins no field
-spaced : (text : List ℕ) → begins_field (32 ∷ text) ≡ false
+pub spaced : (text : List ℕ) → begins_field (32 ∷ text) ≡ false
 spaced text =
     let size : ℕ = prefix_len (λ b. not (is_colon b)) text in
     let longer : 1 + size ≡ suc size = omega arith in

@@ -1,0 +1,67 @@
+-- Worked examples: the tree of a message, and the recipients that readers find in a header.
+use Rattle.std.proofs.Common.{◌≡◌, ℕ, false, List, [], ◌∷◌, ◌++◌, refl}
+use lib.Utf8.{encode}
+use Rattle.std.specs.Prelude.{codes, None, Some, map}
+use Rattle.std.specs.Str.{chars, is_utf8}
+use Rattle.std.specs.Str.Lossy.{utf8_lossy, utf8_valid_len}
+use Rattle.header_words.specs.Fields.{header_of}
+use Rattle.mail_addresses.specs.Boxes.{address_at, angle_at, bare_at, box_at, boxes_of, boxes_within, domain_at, quoted_at, quoted_box_at, spaced_box_at, unquoted_box_at}
+use Rattle.mail_addresses.specs.Runs.{is_local}
+use Rattle.mime_content.specs.Content.{content_of}
+use Rattle.mime_tree.specs.declared.choice.Shown.TheVariants.{Flowed}
+use Rattle.mime_tree.specs.Best.{best_of, leaf_to_show}
+use Rattle.mime_tree.specs.Opening.{message_of, node_at, open_first, opens_beside, parts_of, tree_after_steps, tree_of}
+use Rattle.transfer_codings.specs.Codings.{decoded}
+use Rattle.transfer_codings.specs.Quoted.{line_bytes, quoted_bytes, unescaped, without_blanks}
+use Rattle.transfer_codings.specs.declared.coding.Coding.TheVariants.{Quoted}
+use Rattle.draft_laws.specs.Envelopes.{addresses_read}
+use Rattle.flowed_text.specs.Lines.{lines}
+use Rattle.flowed_text.specs.Paragraphs.{paras_of}
+
+-- a message with a field that looks like one of the body's form in another field, and after the empty line
+letter : List ℕ
+letter = codes "Subject: Content-Type: text/html\r\nMIME-Version: 1.0\r\nContent-Type: text/plain; charset=utf-8; format=flowed\r\nContent-Transfer-Encoding: quoted-printable\r\n\r\nCaf=C3=A9 \r\n=C3=A0 Z\r\n"
+
+letter_parts : parts_of letter ≡ record {
+  section = 1 ∷ [];
+  mime = codes "text/plain";
+  charset = codes "utf-8";
+  coding = Quoted;
+  name = [];
+  id = None;
+  location = None;
+  format = Some false;
+  attached = false;
+  enclosed = false;
+  start = 156;
+  bytes = codes "Caf=C3=A9 \r\n=C3=A0 Z\r\n";
+} ∷ []
+unfolding letter parts_of message_of tree_after_steps open_first opens_beside node_at content_of header_of utf8_lossy utf8_valid_len is_utf8 chars encode
+letter_parts = refl
+
+letter_shown : best_of (tree_of letter) ≡ Flowed (1 ∷ []) false
+unfolding letter best_of leaf_to_show tree_of parts_of message_of tree_after_steps open_first opens_beside node_at content_of header_of utf8_lossy utf8_valid_len is_utf8 chars encode
+letter_shown = refl
+
+-- the space at the line's end is dropped by the coding, so the line does not flow
+letter_text : map (λ para. para.text) (paras_of (decoded Quoted (codes "Caf=C3=A9 \r\n=C3=A0 Z\r\n")) false) ≡ (codes "Caf" ++ 195 ∷ 169 ∷ []) ∷ (195 ∷ 160 ∷ codes " Z") ∷ []
+unfolding quoted_bytes line_bytes unescaped without_blanks paras_of lines
+letter_text = refl
+
+-- ---- recipients
+
+-- boxes on lines of their own: one without a name, one with a comma in its name, one whose name is encoded
+boxes : List ℕ
+boxes = codes "From: a@b\r\nTo: bob@d.example,\r\n \"Lee, A\" <ann@c.example>,\r\n =?utf-8?B?Q2Fmw6k=?= <cafe@e.example>\r\nCc: bob@d.example\r\nSubject: To: c@d\r\n\r\nTo: e@f\r\n"
+
+to_boxes : addresses_read (codes "To") boxes ≡ codes "bob@d.example" ∷ codes "ann@c.example" ∷ codes "cafe@e.example" ∷ []
+unfolding boxes header_of boxes_of boxes_within spaced_box_at box_at unquoted_box_at quoted_box_at quoted_at bare_at angle_at domain_at address_at is_local
+to_boxes = refl
+
+cc_boxes : addresses_read (codes "Cc") boxes ≡ codes "bob@d.example" ∷ []
+unfolding boxes header_of boxes_of boxes_within spaced_box_at box_at unquoted_box_at bare_at domain_at is_local
+cc_boxes = refl
+
+no_boxes : addresses_read (codes "Bcc") boxes ≡ []
+unfolding boxes header_of boxes_of boxes_within
+no_boxes = refl

@@ -1,0 +1,6 @@
+pub mod Fields
+pub mod Tree
+pub mod Recipients
+pub mod ReadBoxes
+pub mod ReadFields
+mod Examples
