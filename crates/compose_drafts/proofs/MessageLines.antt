@@ -78,7 +78,7 @@ own_line form domain d = angles_unbroken (hex_digits 16 form ++ 64 ∷ domain) (
 visible_unbroken : (c : ℕ) → is_visible c ≡ true → is_unbroken c ≡ true
 visible_unbroken c e = grind (arith, nat_tests)
 
-writable_line : (id : List ℕ) → is_writable id ≡ true → is_line (in_angles id) ≡ true
+pub writable_line : (id : List ℕ) → is_writable id ≡ true → is_line (in_angles id) ≡ true
 writable_line id e = angles_unbroken id (all_weaker is_visible is_unbroken visible_unbroken id (and_parts (nat_le (length id) 200) (list_all is_visible id) e).1)
 
 abbrev AreWritable : List (List ℕ) → Type 0

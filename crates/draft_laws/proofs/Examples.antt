@@ -1,7 +1,7 @@
--- Worked examples: the tree of a message, and the recipients that readers find in a header.
-use Rattle.std.proofs.Common.{◌≡◌, ℕ, false, List, [], ◌∷◌, ◌++◌, refl}
+-- Worked examples: the tree of a message, the recipients that readers find in a header, and the lengths of its lines.
+use Rattle.std.proofs.Common.{◌≡◌, ℕ, false, List, [], ◌∷◌, ◌++◌, true, refl}
 use lib.Utf8.{encode}
-use Rattle.std.specs.Prelude.{codes, None, Some, map}
+use Rattle.std.specs.Prelude.{codes, None, Some, map, replicate}
 use Rattle.std.specs.Str.{chars, is_utf8}
 use Rattle.std.specs.Str.Lossy.{utf8_lossy, utf8_valid_len}
 use Rattle.header_words.specs.Fields.{header_of}
@@ -15,6 +15,7 @@ use Rattle.transfer_codings.specs.Codings.{decoded}
 use Rattle.transfer_codings.specs.Quoted.{line_bytes, quoted_bytes, unescaped, without_blanks}
 use Rattle.transfer_codings.specs.declared.coding.Coding.TheVariants.{Quoted}
 use Rattle.draft_laws.specs.Envelopes.{addresses_read}
+use Rattle.draft_laws.specs.HeaderLines.{has_free_text, is_narrow}
 use Rattle.flowed_text.specs.Lines.{lines}
 use Rattle.flowed_text.specs.Paragraphs.{paras_of}
 
@@ -65,3 +66,17 @@ cc_boxes = refl
 no_boxes : addresses_read (codes "Bcc") boxes ≡ []
 unfolding boxes header_of boxes_of boxes_within
 no_boxes = refl
+
+-- ---- lines
+
+lines_of_998 : is_narrow (codes "A: " ++ replicate 995 97 ++ codes "\r\n " ++ replicate 997 97) ≡ true
+lines_of_998 = refl
+
+line_of_999 : is_narrow (codes "A: b\r\n " ++ replicate 998 97) ≡ false
+line_of_999 = refl
+
+a_subject : has_free_text (codes "Subject: a") ≡ true
+a_subject = refl
+
+no_subject : has_free_text (codes "References: <a@b>") ≡ false
+no_subject = refl

@@ -56,7 +56,7 @@ is_other name found = not (str_eq_ignore_ascii_case found name)
 abbrev front_names : List (List ℕ)
 front_names = codes "Date" ∷ codes "From" ∷ codes "To" ∷ codes "Cc" ∷ codes "Subject" ∷ codes "In-Reply-To" ∷ codes "References" ∷ codes "Message-ID" ∷ []
 
-all_eight : (q : List ℕ → Bool) (a b c d e f g h : List (List ℕ)) → list_all q a ≡ true → list_all q b ≡ true → list_all q c ≡ true → list_all q d ≡ true → list_all q e ≡ true → list_all q f ≡ true → list_all q g ≡ true → list_all q h ≡ true
+pub all_eight : (q : List ℕ → Bool) (a b c d e f g h : List (List ℕ)) → list_all q a ≡ true → list_all q b ≡ true → list_all q c ≡ true → list_all q d ≡ true → list_all q e ≡ true → list_all q f ≡ true → list_all q g ≡ true → list_all q h ≡ true
     → list_all q (a ++ b ++ c ++ d ++ e ++ f ++ g ++ h) ≡ true
 all_eight q a b c d e f g h a' b' c' d' e' f' g' h' =
     all_append q (a ++ b ++ c ++ d ++ e ++ f ++ g) h (all_append q (a ++ b ++ c ++ d ++ e ++ f) g (all_append q (a ++ b ++ c ++ d ++ e) f (all_append q (a ++ b ++ c ++ d) e (all_append q (a ++ b ++ c) d

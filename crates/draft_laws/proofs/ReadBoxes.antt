@@ -1,10 +1,11 @@
 -- Boxes that are written in a field are read with their addresses.
 use Rattle.std.proofs.Common.{◌≡◌, ◌≤◌, ◌<◌, ℕ, zero, suc, ◌+◌, ◌*◌, ◌/◌, ◌%◌, inl, inr, Bool, true, false, not, List, [], ◌∷◌, ◌++◌, length, take, drop, get_or, replicate, append_assoc, refl, sym, ap, subst, ◌∙◌, arith, Ok, Err}
 use Rattle.std.specs.Prelude.{◌&&◌, ◌||◌, ◌==◌, if◌then◌else◌, nat_le, nat_lt, Option, Some, None, Result, IfOk, codes}
-use Rattle.std.specs.List.{flat_map, join_by, list_all, prefix_len}
+use Rattle.std.specs.List.{All, flat_map, join_by, list_all, prefix_len}
 use Rattle.std.proofs.lemmas.Bool.{and_parts, cases_Bool, eqb-true, not-true}
 use Rattle.std.proofs.lemmas.Bool.Decides.{nat_tests}
 use Rattle.std.proofs.lemmas.List.{append-nil, drop_at, length-append, take_all, take_at}
+use Rattle.std.proofs.lemmas.List.Elements.{All-cons, All-nil}
 use Rattle.std.proofs.lemmas.List.Folds.{length-prefix_len}
 use Rattle.base64.specs.Engines.{standard}
 use Rattle.base64.specs.GeneralPurpose.{encode_of}
@@ -13,7 +14,7 @@ use Rattle.mail_addresses.specs.declared.Mailbox.{Mailbox}
 use Rattle.mail_addresses.specs.declared.runs.Class.{Class}
 use Rattle.mail_addresses.specs.declared.runs.Class.TheVariants as classes
 use Rattle.mail_addresses.specs.Runs.{◌>>=◌, begins_with, byte_at, in_class, is_local, is_name, is_run, run_at, skip_spaces, strip_at, take_while_at, trim_end}
-use Rattle.mail_addresses.specs.Boxes.{address_at, angle_at, bare_at, box_after, box_at, boxes_of, boxes_within, continue_list, domain_at, next_at, prepend, quoted_at, quoted_box_at, spaced_box_at, unquoted_box_at, with_offset}
+use Rattle.mail_addresses.specs.Boxes.{address_at, angle_at, bare_at, box_after, box_at, boxes_of, boxes_within, continue_list, domain_at, is_address, is_domain_part, next_at, prepend, quoted_at, quoted_box_at, spaced_box_at, unquoted_box_at, with_offset}
 use Rattle.header_words.specs.Fields.{is_blank}
 use Rattle.compose_drafts.specs.Recipients.{addresses}
 use Rattle.compose_drafts.specs.Texts.{box_text, encoded_word, encoded_words, escaped, in_angles, is_plain, phrase, pieces, quoted, word_len}
@@ -81,7 +82,7 @@ run_found class most text = elim (cases_Bool (prefix_len (in_class class) text =
   ]
 ]
 
-run_from : (class : Class) (most : ℕ) (run : List ℕ) → is_run class most run ≡ true → IsRun class most run
+pub run_from : (class : Class) (most : ℕ) (run : List ℕ) → is_run class most run ≡ true → IsRun class most run
 run_from class most run e =
     let n : ℕ = prefix_len (in_class class) run in
     let parts = and_parts (nat_lt 0 n && nat_le n most) (n == length run) e in
@@ -201,6 +202,19 @@ offset_found size (Err left) h = tt
 pub boxes_found : (text : List ℕ) → IfOk (boxes_of text) HaveAddresses
 unfolding boxes_of
 boxes_found text = offset_found (length text) (boxes_within (length text) text) (within_found (length text) text)
+
+-- ---- addresses that pass the test
+
+address_is : (address : List ℕ) → IsAddress address → is_address address ≡ true
+unfolding is_address
+address_is address a =
+    let taken : take_while_at classes.Local (a.local ++ 64 ∷ a.domain) ≡ (a.local, 64 ∷ a.domain) = taken_run classes.Local a.local (64 ∷ a.domain) a.is_local_part.all (at_sign_ends a.domain) in
+    ap is_address a.parts ∙ ap (λ local. is_domain_part (strip_at 64 local.1) && is_run classes.Local 64 local.0) taken
+    ∙ both (is_run classes.Domain 255 a.domain) (is_run classes.Local 64 a.local) (run_is classes.Domain 255 a.domain a.is_domain) (run_is classes.Local 64 a.local a.is_local_part)
+
+pub addresses_are : (boxes : List Mailbox) → HaveAddresses boxes → All (λ address. is_address address ≡ true) (addresses boxes)
+addresses_are [] h = All-nil (λ address. is_address address ≡ true)
+addresses_are (box ∷ boxes) h = All-cons (λ address. is_address address ≡ true) box.address (addresses boxes) (address_is box.address h.0) (addresses_are boxes h.1)
 
 -- ---- bytes that are apart
 

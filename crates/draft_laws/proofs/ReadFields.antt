@@ -193,7 +193,7 @@ no_boxes : read_addresses (boxes_of []) ≡ []
 unfolding boxes_of boxes_within
 no_boxes = refl
 
--- the addresses in the first field of a name are those of the boxes of which it is written
+-- the addresses in the first field of a name are those of the boxes that it was written from
 addresses_field : (name label : List ℕ) (boxes : List Mailbox) (before after : List FieldValue) → IsLabel name label → HaveAddresses boxes → str_eq_ignore_ascii_case name name ≡ true → HaveOther name before → HaveOther name after
     → read_addresses (boxes_of (value_of_field (first_of name (before ++ (fields_of (box_lines label boxes) ++ after))))) ≡ addresses boxes
 addresses_field name label [] before after l h same b a =

@@ -1,24 +1,26 @@
 -- The recipients of a draft are the boxes of its message's header.
-use Rattle.std.proofs.Common.{◌≡◌, ℕ, ℤ, inl, inr, false, List, [], ◌++◌, length, refl, sym, ap, ◌∙◌, subst, Ok, Err}
+use Rattle.std.proofs.Common.{◌≡◌, ℕ, ℤ, inl, inr, true, false, List, [], ◌++◌, length, refl, sym, ap, ◌∙◌, subst, Ok, Err}
 use Rattle.std.specs.Prelude.{◌&&◌, nat_lt, Some, Result, IfOk, codes}
+use Rattle.std.specs.List.{All}
 use Rattle.std.proofs.lemmas.Bool.{cases_Bool}
 use Rattle.std.proofs.lemmas.List.{map-append}
+use Rattle.std.proofs.lemmas.List.Elements.{All-append}
 use Rattle.account_pictures.specs.declared.records.Identity.{Identity}
 use Rattle.mail_addresses.specs.declared.Mailbox.{Mailbox}
 use Rattle.site_asks.specs.declared.Draft.{Draft}
 use Rattle.compose_drafts.specs.declared.DraftFault.{DraftFault}
 use Rattle.compose_drafts.specs.declared.DraftFault.TheVariants as faults
 use Rattle.compose_drafts.specs.declared.parties.Parties.{Parties}
-use Rattle.compose_drafts.specs.Drafts.{◌>>=◌, IsSent, boxes_or_none, domain_of, from_text, in_field, is_blank, limit, parties_of, recipients_of, sender_of, sent_parties_of, within_limit}
+use Rattle.compose_drafts.specs.Drafts.{◌>>=◌, IsSent, boxes_or_none, domain_of, from_text, in_field, is_blank, one_address, limit, parties_of, recipients_of, sender_of, sent_parties_of, within_limit}
 use Rattle.compose_drafts.specs.Recipients.{addresses, addresses_in, addresses_of}
-use Rattle.mail_addresses.specs.Boxes.{boxes_of}
+use Rattle.mail_addresses.specs.Boxes.{boxes_of, is_address}
 use Rattle.compose_drafts.proofs.AddressLines.{HaveLines, boxes_lines}
 use Rattle.compose_drafts.proofs.MessageLines.{HavePartyLines, parties_lines}
 use Rattle.draft_laws.specs.Envelopes.{HasRecipients, addresses_read}
-use Rattle.draft_laws.proofs.ReadBoxes.{HaveAddresses, boxes_found}
+use Rattle.draft_laws.proofs.ReadBoxes.{HaveAddresses, addresses_are, boxes_found}
 use Rattle.draft_laws.proofs.ReadFields.{HasBoxes, copied_read, to_read}
 
-record IsWritten (first second : Result (List Mailbox) DraftFault) (parties : Parties) : Type 0 where
+record IsWritten (first second : Result (List Mailbox) DraftFault) (sender : Result (List ℕ) DraftFault) (parties : Parties) : Type 0 where
   to : List Mailbox
   cc : List Mailbox
   to_field : parties.to ≡ boxes_or_none to
@@ -26,6 +28,9 @@ record IsWritten (first second : Result (List Mailbox) DraftFault) (parties : Pa
   sent_to : addresses_in first second ≡ Ok (addresses (to ++ cc))
   first_boxes : first ≡ Ok to
   second_boxes : second ≡ Ok cc
+  from : List ℕ
+  sender_address : sender ≡ Ok from
+  own_domain : parties.domain ≡ domain_of from
 
 -- a message that is sent
 abbrev sent_with : Draft → Identity → Result (List Mailbox) DraftFault → Result (List Mailbox) DraftFault → Result (List ℕ) DraftFault → Result Parties DraftFault
@@ -35,13 +40,13 @@ sent_with draft identity first second sender = do
   address ← sender
   within_limit draft.text (record { from = Some (from_text identity); to = boxes_or_none to; cc = boxes_or_none cc; domain = domain_of address })
 
-limit_keeps : (text : List ℕ) (found parties : Parties) → within_limit text found ≡ Ok parties → found ≡ parties
+pub limit_keeps : (text : List ℕ) (found parties : Parties) → within_limit text found ≡ Ok parties → found ≡ parties
 limit_keeps text found parties e = elim (cases_Bool (nat_lt limit (length text))) [
   | inl long ↦ let long_text : within_limit text found ≡ Err (faults.Long (length text)) = rw long refl in cc (e, long_text)
   | inr short ↦ let kept : within_limit text found ≡ Ok found = rw short refl in cc (e, kept)
 ]
 
-written : (draft : Draft) (identity : Identity) (first second : Result (List Mailbox) DraftFault) (sender : Result (List ℕ) DraftFault) (parties : Parties) → sent_with draft identity first second sender ≡ Ok parties → IsWritten first second parties
+written : (draft : Draft) (identity : Identity) (first second : Result (List Mailbox) DraftFault) (sender : Result (List ℕ) DraftFault) (parties : Parties) → sent_with draft identity first second sender ≡ Ok parties → IsWritten first second sender parties
 written draft identity (Ok to) (Ok copied) (Ok address) parties e =
     let same = limit_keeps draft.text (record { from = Some (from_text identity); to = boxes_or_none to; cc = boxes_or_none copied; domain = domain_of address }) parties e in
     record {
@@ -52,12 +57,15 @@ written draft identity (Ok to) (Ok copied) (Ok address) parties e =
       sent_to = ap Ok (sym (map-append (λ (box : Mailbox). box.address) to copied));
       first_boxes = refl;
       second_boxes = refl;
+      from = address;
+      sender_address = refl;
+      own_domain = ap (λ (p : Parties). p.domain) (sym same);
     }
 written draft identity (Ok to) (Ok copied) (Err fault) parties e = cc e
 written draft identity (Ok to) (Err fault) sender parties e = cc e
 written draft identity (Err fault) second sender parties e = cc e
 
-written_boxes : (draft : Draft) (identity : Identity) (parties : Parties) → parties_of draft identity ≡ Ok parties → IsWritten (recipients_of (codes "to") draft.to) (recipients_of (codes "cc") draft.cc) parties
+written_boxes : (draft : Draft) (identity : Identity) (parties : Parties) → parties_of draft identity ≡ Ok parties → IsWritten (recipients_of (codes "to") draft.to) (recipients_of (codes "cc") draft.cc) (sender_of identity.address) parties
 unfolding parties_of sent_parties_of
 written_boxes draft identity parties e = elim (cases_Bool (is_blank draft.to && is_blank draft.cc)) [
   | inl b ↦
@@ -139,3 +147,54 @@ shared_fault draft identity fault e = elim (cases_Bool (is_blank draft.to && is_
       let found : addresses_in (recipients_of (codes "to") draft.to) (recipients_of (codes "cc") draft.cc) ≡ Err fault = rw b at e in
       rw b (not_sent draft identity (recipients_of (codes "to") draft.to) (recipients_of (codes "cc") draft.cc) (sender_of identity.address) fault found)
 ]
+
+-- ---- addresses
+
+in_both : (first second : Result (List Mailbox) DraftFault) (found : List (List ℕ)) → IfOk first HaveAddresses → IfOk second HaveAddresses → addresses_in first second ≡ Ok found → All (λ address. is_address address ≡ true) found
+in_both (Ok to) (Ok copied) found a b e =
+    let same : addresses to ++ addresses copied ≡ found = cc e in
+    subst (λ f. All (λ address. is_address address ≡ true) f) same (All-append (λ address. is_address address ≡ true) (addresses to) (addresses copied) (addresses_are to a) (addresses_are copied b))
+in_both (Ok to) (Err fault) found a b e = cc e
+in_both (Err fault) second found a b e = cc e
+
+found_addresses : (name text : List ℕ) (read : Result (List Mailbox) DraftFault) → recipients_of name text ≡ read → IfOk read HaveAddresses
+found_addresses name text (Ok boxes) e = (boxes_are name text boxes e).1
+found_addresses name text (Err fault) e = tt
+
+have_addresses : (name text : List ℕ) → IfOk (recipients_of name text) HaveAddresses
+have_addresses name text = found_addresses name text (recipients_of name text) refl
+
+pub recipients_are : (draft : Draft) (found : List (List ℕ)) → addresses_of draft ≡ Ok found → All (λ address. is_address address ≡ true) found
+unfolding addresses_of
+recipients_are draft found e = elim (cases_Bool (is_blank draft.to && is_blank draft.cc)) [
+  | inl b ↦
+      let nobody : addresses_of draft ≡ Err faults.NoRecipient = rw b refl in
+      cc (e, nobody)
+  | inr b ↦
+      let read : addresses_in (recipients_of (codes "to") draft.to) (recipients_of (codes "cc") draft.cc) ≡ Ok found = rw b at e in
+      in_both (recipients_of (codes "to") draft.to) (recipients_of (codes "cc") draft.cc) found (have_addresses (codes "to") draft.to) (have_addresses (codes "cc") draft.cc) read
+]
+
+checked : (address from : List ℕ) (boxes : Result (List Mailbox) DraftFault) → one_address address boxes ≡ Ok from → (is_address address ≡ true) × (address ≡ from)
+checked address from (Ok boxes) e = elim (cases_Bool (is_address address)) [
+  | inl b ↦
+      let kept : one_address address (Ok boxes) ≡ Ok address = rw b refl in
+      (b, cc (e, kept))
+  | inr b ↦
+      let refused : one_address address (Ok boxes) ≡ Err (faults.NotAddress (codes "identity") 0) = rw b refl in
+      cc (e, refused)
+]
+checked address from (Err fault) e = cc e
+
+pub sender_is : (draft : Draft) (identity : Identity) (parties : Parties) → parties_of draft identity ≡ Ok parties → is_address identity.address ≡ true
+unfolding sender_of
+sender_is draft identity parties e =
+    let w = written_boxes draft identity parties e in
+    (checked identity.address w.from (in_field (codes "identity") (boxes_of identity.address)) w.sender_address).0
+
+-- the domain of a message's identifier is that of its sender
+pub domain_is : (draft : Draft) (identity : Identity) (parties : Parties) → parties_of draft identity ≡ Ok parties → parties.domain ≡ domain_of identity.address
+unfolding sender_of
+domain_is draft identity parties e =
+    let w = written_boxes draft identity parties e in
+    w.own_domain ∙ ap domain_of (sym (checked identity.address w.from (in_field (codes "identity") (boxes_of identity.address)) w.sender_address).1)

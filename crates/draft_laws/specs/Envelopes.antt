@@ -1,8 +1,9 @@
 -- The recipients of a message in its header and in its envelope (RFC 5321, RFC 5322).
-use Rattle.std.specs.Prelude.{◌≡◌, ℕ, ℤ, List, [], ◌++◌, codes, Result, Ok, Err}
+use Rattle.std.specs.Prelude.{◌≡◌, ℕ, ℤ, true, List, [], ◌++◌, codes, Result, Ok, Err}
+use Rattle.std.specs.List.{All}
 use Rattle.account_pictures.specs.declared.records.Identity.{Identity}
 use Rattle.header_words.specs.Fields.{header_of}
-use Rattle.mail_addresses.specs.Boxes.{boxes_of}
+use Rattle.mail_addresses.specs.Boxes.{boxes_of, is_address}
 use Rattle.mail_addresses.specs.declared.Mailbox.{Mailbox}
 use Rattle.mime_content.specs.Content.{field_value}
 use Rattle.site_asks.specs.declared.Draft.{Draft}
@@ -41,3 +42,13 @@ addresses_read name bytes = read_addresses (boxes_of (field_value name (header_o
 -- a message is sent to the addresses that readers find in its To and Cc, in order
 abbrev pub RecipientsAreRead : Type 0
 RecipientsAreRead = (draft : Draft) (identity : Identity) (moment : ℤ) (bytes : List ℕ) → IsSent draft (parties_of draft identity) moment bytes → addresses_of draft ≡ Ok (addresses_read (codes "To") bytes ++ addresses_read (codes "Cc") bytes)
+
+-- ---- addresses
+
+-- recipients are addresses, each one `local@domain`
+abbrev pub RecipientsAreAddresses : Type 0
+RecipientsAreAddresses = (draft : Draft) (found : List (List ℕ)) → addresses_of draft ≡ Ok found → All (λ address. is_address address ≡ true) found
+
+-- a message is sent by an address
+abbrev pub SendersAreAddresses : Type 0
+SendersAreAddresses = (draft : Draft) (identity : Identity) (parties : Parties) → parties_of draft identity ≡ Ok parties → is_address identity.address ≡ true

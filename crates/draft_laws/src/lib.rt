@@ -2,7 +2,8 @@
 #![tactic(auto)]
 
 ghost use Rattle.compose_drafts.specs.Drafts.{parties_of, saved_parties_of};
-ghost use Rattle.draft_laws.specs.Envelopes.{FaultsAreShared, RecipientsAreRead, RecipientsAreWritten};
+ghost use Rattle.draft_laws.specs.Envelopes.{FaultsAreShared, RecipientsAreAddresses, RecipientsAreRead, RecipientsAreWritten, SendersAreAddresses};
+ghost use Rattle.draft_laws.specs.HeaderLines.{HeadersAreNarrow};
 ghost use Rattle.draft_laws.specs.OneText.{MessagesAreOneText};
 
 /// Proves that the tree of a built message is one part, which is decoded and read as the paragraphs of the draft's text.
@@ -17,4 +18,16 @@ pub fn recipients_are_written()
     ensures boxes { RecipientsAreWritten }
     ensures read { RecipientsAreRead }
     ensures faults { FaultsAreShared }
+{}
+
+/// Proves that the sender and the recipients of a message are addresses, as a mail server's commands take them: each one `local@domain`.
+pub fn envelopes_have_addresses()
+    ensures sender { SendersAreAddresses }
+    ensures recipients { RecipientsAreAddresses }
+{}
+
+/// Proves that no line of a built header has more than 998 bytes, but for those of From, To, Cc and Subject.
+pub fn headers_are_narrow()
+    ensures sent { HeadersAreNarrow parties_of }
+    ensures saved { HeadersAreNarrow saved_parties_of }
 {}
