@@ -1,6 +1,13 @@
 -- Worked examples of bodies as readers take them, and of recipients.
-use Rattle.std.proofs.Common.{◌≡◌, ℕ, true, false, List, [], ◌∷◌, ◌++◌, refl, None, Ok, Err}
+use Rattle.std.proofs.Common.{◌≡◌, ◌≤◌, ℕ, true, false, List, [], ◌∷◌, ◌++◌, length, refl, arith, None, Ok, Err}
+use lib.Utf8.{encode}
 use Rattle.std.specs.Prelude.{codes}
+use Rattle.std.specs.Str.{chars, is_utf8}
+use Rattle.std.specs.Str.Lossy.{utf8_lossy, utf8_valid_len}
+use Rattle.std.proofs.lemmas.List.Elements.{All-cons, All-nil}
+use Rattle.flowed_text.specs.Flow.{flow, line_break}
+use Rattle.flowed_text.specs.Lines.{lines as text_lines}
+use Rattle.flowed_text.specs.Paragraphs.{paras_of}
 use Rattle.header_words.specs.Fields.{header_of}
 use Rattle.mail_addresses.specs.Runs.{is_local}
 use Rattle.mail_addresses.specs.Boxes.{address_at, angle_at, bare_at, box_at, boxes_of, boxes_within, domain_at, quoted_at, quoted_box_at, spaced_box_at, unquoted_box_at}
@@ -9,9 +16,9 @@ use Rattle.transfer_codings.specs.Codings.{decoded}
 use Rattle.transfer_codings.specs.Quoted.{line_bytes, quoted_bytes, unescaped, without_blanks}
 use Rattle.transfer_codings.specs.QuotedRows.{broken_lines, quoted_text, rows_text, unit_of}
 use Rattle.compose_drafts.specs.declared.DraftFault.TheVariants as faults
-use Rattle.compose_drafts.specs.Bodies.{body_in, coding_of}
+use Rattle.compose_drafts.specs.Bodies.{CarriesText, body_in, coding_of}
 use Rattle.compose_drafts.specs.Drafts.{recipients_of}
-use Rattle.compose_drafts.specs.Paragraphs.{coded}
+use Rattle.compose_drafts.specs.Paragraphs.{coded, is_seven_bit, paragraphs_of}
 use Rattle.compose_drafts.specs.Recipients.{addresses_of}
 
 -- ---- bodies
@@ -37,6 +44,19 @@ read_cafe = refl
 
 read_plain : decoded (coding_of true) (codes "a =3D\r\n") ≡ codes "a =3D\r\n"
 read_plain = refl
+
+-- a draft whose body is sent as quoted-printable
+abbrev cafe_draft : Draft
+cafe_draft = record { form = 42; identity = 1; to = []; cc = []; subject = []; text = codes " Caf" ++ 195 ∷ 169 ∷ codes "\n> a"; refs = []; old = None }
+
+cafe_carried : CarriesText cafe_draft (codes "Caf=C3=A9\r\n> a\r\n")
+unfolding quoted_bytes line_bytes unescaped without_blanks flow line_break paragraphs_of text_lines is_seven_bit paras_of utf8_lossy utf8_valid_len is_utf8 chars encode
+cafe_carried = record {
+  decodes = refl;
+  is_text = refl;
+  paragraphs = refl;
+  short = All-cons (λ (line : List ℕ). length line ≤ 998) (codes "Caf=C3=A9") (codes "> a" ∷ []) (omega arith) (All-cons (λ (line : List ℕ). length line ≤ 998) (codes "> a") [] (omega arith) (All-nil (λ (line : List ℕ). length line ≤ 998)));
+}
 
 -- ---- recipients
 
