@@ -132,7 +132,7 @@ boxes_lines text = offset_lines (length text) (boxes_within (length text) text) 
 
 part_lines : (domain : Option (List ℕ)) (text : List ℕ) → domain ≡ strip_at 64 text → is_domain_part domain ≡ true → is_line text ≡ true
 part_lines None text s e = cc e
-part_lines (Some domain) [] s e = cc s
+part_lines (Some domain) [] s e = cc
 part_lines (Some domain) (c ∷ rest) s e = elim (cases_Bool (c == 64)) [
   | inl f ↦
       let here : strip_at 64 (c ∷ rest) ≡ Some rest = rw f refl in

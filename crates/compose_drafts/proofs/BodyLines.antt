@@ -51,7 +51,7 @@ nonempty_lines (line ∷ next ∷ more) h =
     let cut = and_parts (is_line line) (list_all is_line (next ∷ more)) h in
     both (is_line line) (list_all is_line (without_empty_last (next ∷ more))) cut.0 (nonempty_lines (next ∷ more) cut.1)
 
-text_lines : (text : List ℕ) → list_all is_line (lines text) ≡ true
+pub text_lines : (text : List ℕ) → list_all is_line (lines text) ≡ true
 unfolding lines
 text_lines text = nonempty_lines (slice_split is_ending (single_endings text)) (split_lines (single_endings text))
 
@@ -70,7 +70,7 @@ stripped_line (c ∷ line) h = elim (cases_Bool (c == 32)) [
   | inr e ↦ rw e h
 ]
 
-paragraph_line : (line : List ℕ) → is_line line ≡ true → is_line (paragraph_of line).text ≡ true
+pub paragraph_line : (line : List ℕ) → is_line line ≡ true → is_line (paragraph_of line).text ≡ true
 paragraph_line line h =
     all_drop is_unbroken _ (read_line (trimmed line)).text (stripped_line (drop (mark_count (trimmed line)) (trimmed line)) (all_drop is_unbroken (mark_count (trimmed line)) (trimmed line) (trimmed_line line h)))
 

@@ -1,4 +1,5 @@
 mod Examples
+mod BodyExamples
 pub mod Finished
 pub mod MomentLemmas
 pub mod Steps
@@ -8,3 +9,5 @@ pub mod WholeLines
 pub mod AddressLines
 pub mod BodyLines
 pub mod MessageLines
+pub mod Restored
+pub mod Carried

@@ -50,7 +50,7 @@ month_line n =
     all_get is_line (codes "Jan" ∷ codes "Feb" ∷ codes "Mar" ∷ codes "Apr" ∷ codes "May" ∷ codes "Jun" ∷ codes "Jul" ∷ codes "Aug" ∷ codes "Sep" ∷ codes "Oct" ∷ codes "Nov" ∷ []) (n - 1) (codes "Dec") refl refl
 
 -- lines in a row
-joined : (a b : List ℕ) → is_line a ≡ true → is_line b ≡ true → is_line (a ++ b) ≡ true
+pub joined : (a b : List ℕ) → is_line a ≡ true → is_line b ≡ true → is_line (a ++ b) ≡ true
 joined a b x y = all_append is_unbroken a b x y
 
 date_parts : (weekday day month year hour minute second : List ℕ) → is_line weekday ≡ true → is_line day ≡ true → is_line month ≡ true → is_line year ≡ true → is_line hour ≡ true → is_line minute ≡ true → is_line second ≡ true
@@ -70,7 +70,7 @@ hex_line (suc count) number = joined (hex_digits count (number / 16)) (hex_digit
   | inr e ↦ rw e (above (87 + number % 16) (omega arith))
 ]) refl)
 
-own_line : (form : ℕ) (domain : List ℕ) → is_line domain ≡ true → is_line (own_id form domain) ≡ true
+pub own_line : (form : ℕ) (domain : List ℕ) → is_line domain ≡ true → is_line (own_id form domain) ≡ true
 own_line form domain d = angles_unbroken (hex_digits 16 form ++ 64 ∷ domain) (joined (hex_digits 16 form) (64 ∷ domain) (hex_line 16 form) d)
 
 -- ---- identifiers
@@ -78,19 +78,19 @@ own_line form domain d = angles_unbroken (hex_digits 16 form ++ 64 ∷ domain) (
 visible_unbroken : (c : ℕ) → is_visible c ≡ true → is_unbroken c ≡ true
 visible_unbroken c e = grind (arith, nat_tests)
 
-writable_line : (id : List ℕ) → is_writable id ≡ true → is_line (in_angles id) ≡ true
+pub writable_line : (id : List ℕ) → is_writable id ≡ true → is_line (in_angles id) ≡ true
 writable_line id e = angles_unbroken id (all_weaker is_visible is_unbroken visible_unbroken id (and_parts (nat_le (length id) 200) (list_all is_visible id) e).1)
 
 abbrev AreWritable : List (List ℕ) → Type 0
 AreWritable ids = list_all is_writable ids ≡ true
 
-ids_field : (name : List ℕ) → begins_field name ≡ true → is_line name ≡ true → (ids : List (List ℕ)) → AreWritable ids → AreFields (optional name (ids_or_none ids))
+pub ids_field : (name : List ℕ) → begins_field name ≡ true → is_line name ≡ true → (ids : List (List ℕ)) → AreWritable ids → AreFields (optional name (ids_or_none ids))
 ids_field name b h ids each = elim (cases_Bool (length ids == 0)) [
   | inl e ↦ rw e no_fields
   | inr e ↦ rw e (joined_field in_angles name [] b h refl ids (all_weaker is_writable (λ id. is_line (in_angles id)) writable_line ids each))
 ]
 
-references_writable : (refs : List ℕ) → AreWritable (references_of refs)
+pub references_writable : (refs : List ℕ) → AreWritable (references_of refs)
 unfolding references_of
 references_writable refs = all_drop is_writable _ (filter is_writable (ids_in refs)) (all_filter is_writable (ids_in refs))
 
@@ -212,13 +212,11 @@ saved_lines draft identity =
 
 -- ---- the message
 
-all_fields : (a b c d e f g h i j k : List (List ℕ)) → AreFields a → AreFields b → AreFields c → AreFields d → AreFields e → AreFields f → AreFields g → AreFields h → AreFields i → AreFields j → AreFields k
-    → AreFields (a ++ b ++ c ++ d ++ e ++ f ++ g ++ h ++ i ++ j ++ k)
-all_fields a b c d e f g h i j k a' b' c' d' e' f' g' h' i' j' k' =
-    fields_join (a ++ b ++ c ++ d ++ e ++ f ++ g ++ h ++ i ++ j) k (fields_join (a ++ b ++ c ++ d ++ e ++ f ++ g ++ h ++ i) j (fields_join (a ++ b ++ c ++ d ++ e ++ f ++ g ++ h) i (fields_join (a ++ b ++ c ++ d ++ e ++ f ++ g) h
-    (fields_join (a ++ b ++ c ++ d ++ e ++ f) g (fields_join (a ++ b ++ c ++ d ++ e) f (fields_join (a ++ b ++ c ++ d) e (fields_join (a ++ b ++ c) d (fields_join (a ++ b) c (fields_join a b a' b') c') d') e') f') g') h') i') j') k'
+all_fields : (a b c d e f g h : List (List ℕ)) → AreFields a → AreFields b → AreFields c → AreFields d → AreFields e → AreFields f → AreFields g → AreFields h → AreFields (a ++ b ++ c ++ d ++ e ++ f ++ g ++ h)
+all_fields a b c d e f g h a' b' c' d' e' f' g' h' =
+    fields_join (a ++ b ++ c ++ d ++ e ++ f ++ g) h (fields_join (a ++ b ++ c ++ d ++ e ++ f) g (fields_join (a ++ b ++ c ++ d ++ e) f (fields_join (a ++ b ++ c ++ d) e (fields_join (a ++ b ++ c) d (fields_join (a ++ b) c (fields_join a b a' b') c') d') e') f') g') h'
 
-date_line : (clock : DateTime) → is_line (date_text clock) ≡ true
+pub date_line : (clock : DateTime) → is_line (date_text clock) ≡ true
 unfolding date_text
 date_line clock =
     let day : ℕ = weekday_of clock.date in
@@ -230,21 +228,47 @@ coding_line : (seven_bit : Bool) → is_line (codes "Content-Transfer-Encoding: 
 coding_line true = refl
 coding_line false = refl
 
-header_lines : (draft : Draft) (parties : Parties) (clock : DateTime) (seven_bit : Bool) → HavePartyLines parties → AreFields (header draft parties clock seven_bit)
+-- the fields before those of the body's form
+abbrev pub front : Draft → Parties → DateTime → List (List ℕ)
+front draft parties clock =
+    (codes "Date: " ++ date_text clock) ∷ [] ++ optional (codes "From: ") parties.from ++ optional (codes "To: ") parties.to ++ optional (codes "Cc: ") parties.cc ++ (codes "Subject: " ++ written draft.subject) ∷ []
+    ++ optional (codes "In-Reply-To: ") (ids_or_none (last_of_ids 1 (references_of draft.refs))) ++ optional (codes "References: ") (ids_or_none (references_of draft.refs)) ++ (codes "Message-ID: " ++ own_id draft.form parties.domain) ∷ []
+
+-- the fields of the body's form
+abbrev pub form : Bool → List (List ℕ)
+form seven_bit = codes "MIME-Version: 1.0" ∷ codes "Content-Type: text/plain; charset=utf-8; format=flowed" ∷ (codes "Content-Transfer-Encoding: " ++ coding_name seven_bit) ∷ []
+
+pub header_split : (draft : Draft) (parties : Parties) (clock : DateTime) (seven_bit : Bool) → header draft parties clock seven_bit ≡ front draft parties clock ++ form seven_bit
 unfolding header
-header_lines draft parties clock seven_bit h =
+header_split draft parties clock seven_bit =
+    let first : List (List ℕ) = front draft parties clock in
+    let version : List ℕ = codes "MIME-Version: 1.0" in
+    let kind : List ℕ = codes "Content-Type: text/plain; charset=utf-8; format=flowed" in
+    let coding : List ℕ = codes "Content-Transfer-Encoding: " ++ coding_name seven_bit in
+    ap (λ fields. fields ++ coding ∷ []) (append_assoc first (version ∷ []) (kind ∷ [])) ∙ append_assoc first (version ∷ kind ∷ []) (coding ∷ [])
+
+pub front_lines : (draft : Draft) (parties : Parties) (clock : DateTime) → HavePartyLines parties → AreFields (front draft parties clock)
+front_lines draft parties clock h =
     all_fields ((codes "Date: " ++ date_text clock) ∷ []) (optional (codes "From: ") parties.from) (optional (codes "To: ") parties.to) (optional (codes "Cc: ") parties.cc) ((codes "Subject: " ++ written draft.subject) ∷ [])
     (optional (codes "In-Reply-To: ") (ids_or_none (last_of_ids 1 (references_of draft.refs)))) (optional (codes "References: ") (ids_or_none (references_of draft.refs)))
-    ((codes "Message-ID: " ++ own_id draft.form parties.domain) ∷ []) (codes "MIME-Version: 1.0" ∷ []) (codes "Content-Type: text/plain; charset=utf-8; format=flowed" ∷ []) ((codes "Content-Transfer-Encoding: " ++ coding_name seven_bit) ∷ [])
+    ((codes "Message-ID: " ++ own_id draft.form parties.domain) ∷ [])
     (line_field (codes "Date: ") (date_text clock) refl (joined (codes "Date: ") (date_text clock) refl (date_line clock)))
     (optional_field (codes "From: ") parties.from h.from) (optional_field (codes "To: ") parties.to h.to) (optional_field (codes "Cc: ") parties.cc h.copied)
     (line_field (codes "Subject: ") (written draft.subject) refl (joined (codes "Subject: ") (written draft.subject) refl (written_unbroken draft.subject)))
     (ids_field (codes "In-Reply-To: ") refl refl (last_of_ids 1 (references_of draft.refs)) (all_drop is_writable _ (references_of draft.refs) (references_writable draft.refs)))
     (ids_field (codes "References: ") refl refl (references_of draft.refs) (references_writable draft.refs))
     (line_field (codes "Message-ID: ") (own_id draft.form parties.domain) refl (joined (codes "Message-ID: ") (own_id draft.form parties.domain) refl (own_line draft.form parties.domain h.domain)))
-    (line_field (codes "MIME-Version:") (codes " 1.0") refl refl)
-    (line_field (codes "Content-Type:") (codes " text/plain; charset=utf-8; format=flowed") refl refl)
+
+form_lines : (seven_bit : Bool) → AreFields (form seven_bit)
+form_lines seven_bit =
+    fields_join (codes "MIME-Version: 1.0" ∷ codes "Content-Type: text/plain; charset=utf-8; format=flowed" ∷ []) ((codes "Content-Transfer-Encoding: " ++ coding_name seven_bit) ∷ [])
+    (fields_join (codes "MIME-Version: 1.0" ∷ []) (codes "Content-Type: text/plain; charset=utf-8; format=flowed" ∷ []) (line_field (codes "MIME-Version:") (codes " 1.0") refl refl)
+    (line_field (codes "Content-Type:") (codes " text/plain; charset=utf-8; format=flowed") refl refl))
     (line_field (codes "Content-Transfer-Encoding: ") (coding_name seven_bit) refl (coding_line seven_bit))
+
+pub header_lines : (draft : Draft) (parties : Parties) (clock : DateTime) (seven_bit : Bool) → HavePartyLines parties → AreFields (header draft parties clock seven_bit)
+header_lines draft parties clock seven_bit h =
+    subst AreFields (sym (header_split draft parties clock seven_bit)) (fields_join (front draft parties clock) (form seven_bit) (front_lines draft parties clock h) (form_lines seven_bit))
 
 message_lines : (draft : Draft) (parties : Parties) (clock : DateTime) → HavePartyLines parties → IsLines (message draft parties clock)
 unfolding message

@@ -55,7 +55,7 @@ and_no true b e = e
 and_no false b e = refl
 
 -- a line that begins with a space begins no field
-spaced : (text : List ℕ) → begins_field (32 ∷ text) ≡ false
+pub spaced : (text : List ℕ) → begins_field (32 ∷ text) ≡ false
 spaced text =
     let size : ℕ = prefix_len (λ b. not (is_colon b)) text in
     let longer : 1 + size ≡ suc size = omega arith in
@@ -223,14 +223,14 @@ joined_field f name comma b h k (x ∷ xs) each =
 not_line_feed : (c : ℕ) → is_unbroken c ≡ true → (c == 10) ≡ false
 not_line_feed c h = grind (arith, nat_tests)
 
-split_ended : (line rest : List ℕ) → is_line line ≡ true → slice_split (λ b. b == 10) (line ++ 13 ∷ 10 ∷ rest) ≡ (line ++ 13 ∷ []) ∷ slice_split (λ b. b == 10) rest
+pub split_ended : (line rest : List ℕ) → is_line line ≡ true → slice_split (λ b. b == 10) (line ++ 13 ∷ 10 ∷ rest) ≡ (line ++ 13 ∷ []) ∷ slice_split (λ b. b == 10) rest
 split_ended [] rest h = refl
 split_ended (c ∷ line) rest h =
     let cut = and_parts (is_unbroken c) (is_line line) h in
     let other : (c == 10) ≡ false = not_line_feed c cut.0 in
     rw other (ap (onto_first c) (split_ended line rest cut.1))
 
-strip_ended : (line : List ℕ) → strip_carriage_return (line ++ 13 ∷ []) ≡ line
+pub strip_ended : (line : List ℕ) → strip_carriage_return (line ++ 13 ∷ []) ≡ line
 strip_ended line =
     let size : length (line ++ 13 ∷ []) - 1 ≡ length line = omega (arith, length_push line 13) in
     let last : get_or (line ++ 13 ∷ []) (length line) 0 ≡ 13 = get_or_push line 13 0 (length line) refl in
@@ -241,7 +241,7 @@ parts_more : (part : List ℕ) (parts : List (List ℕ)) → 0 < length parts �
 parts_more part [] some = absurd (omega arith)
 parts_more part (next ∷ more) some = refl
 
-lines_ended : (line rest : List ℕ) → is_line line ≡ true → lines (line ++ 13 ∷ 10 ∷ rest) ≡ line ∷ lines rest
+pub lines_ended : (line rest : List ℕ) → is_line line ≡ true → lines (line ++ 13 ∷ 10 ∷ rest) ≡ line ∷ lines rest
 lines_ended line rest h =
     let parts : List (List ℕ) = slice_split (λ b. b == 10) rest in
     ap lines_of_parts (split_ended line rest h) ∙ parts_more (line ++ 13 ∷ []) parts (omega (arith, length-slice_split (λ b. b == 10) rest)) ∙ ap (λ first. first ∷ lines_of_parts parts) (strip_ended line)

@@ -48,7 +48,7 @@ abbrev pub in_field : List ℕ → Result (List Mailbox) ℕ → Result (List Ma
 in_field name (Ok boxes) = Ok boxes
 in_field name (Err at) = Err (faults.NotAddress name at)
 
--- the boxes of a field, of which a blank one has none
+-- the boxes of a field; a blank field has none
 unfoldable pub recipients_of : List ℕ → List ℕ → Result (List Mailbox) DraftFault
 recipients_of name text = if is_blank text then Ok [] else in_field name (boxes_of text)
 

@@ -6,3 +6,5 @@ pub mod Moments
 pub mod Message
 pub mod Drafts
 pub mod Readers
+pub mod Bodies
+pub mod Recipients

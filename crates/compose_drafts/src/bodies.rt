@@ -1,7 +1,9 @@
 //! The body of a message: the paragraphs of a draft's text, as flowed text.
-ghost use Rattle.std.specs.Prelude.{◌≡◌, ◌++◌, IfOk, OnOk, codes, string_bytes};
+ghost use Rattle.std.specs.Prelude.{◌≡◌, ◌++◌, false, IfOk, OnOk, codes, string_bytes};
 ghost use Rattle.std.specs.List.{list_all};
 ghost use Rattle.flowed_text.specs.Flow.{flow};
+ghost use Rattle.flowed_text.specs.Paragraphs.{paras_of};
+ghost use Rattle.compose_drafts.specs.Bodies.{CodesBack};
 ghost use Rattle.compose_drafts.specs.Paragraphs.{coded, has_short_lines, is_ascii, is_seven_bit, is_short, paragraph_of, paragraphs_of, trimmed};
 
 use flowed_text::{Para, read_line, split_line, write_flowed};
@@ -48,7 +50,8 @@ fn paragraphs_of(alloc: Global, text: &str) -> Result<Vec<Para>, AllocError>
 
 /// Returns the text of a draft as flowed text.
 pub fn body_of(alloc: Global, text: &str) -> Result<String, AllocError>
-    ensures { IfOk result (λ body. string_bytes body ≡ flow (paragraphs_of text.now)) }
+    ensures equals { IfOk result (λ body. string_bytes body ≡ flow (paragraphs_of text.now)) }
+    ensures parses { IfOk result (λ body. paras_of (string_bytes body) false ≡ paragraphs_of text.now) }
 {
     let paras = paragraphs_of(alloc, text)?;
     write_flowed(alloc, &paras)
@@ -87,7 +90,8 @@ pub fn push_coded(
     seven_bit: bool,
     body: &[u8],
 ) -> Result<(), AllocError>
-    ensures { OnOk result (out.new.items ≡ out.old.items ++ coded seven_bit body.now) }
+    ensures appends { OnOk result (out.new.items ≡ out.old.items ++ coded seven_bit body.now) }
+    ensures decodes { OnOk result (CodesBack seven_bit body.now) }
 {
     if seven_bit {
         return out.extend_from_slice(body);

@@ -1,8 +1,10 @@
 //! Builds messages.
 ghost use Rattle.std.specs.Prelude.{◌≡◌, IfOk};
+ghost use Rattle.compose_drafts.specs.Bodies.{CarriesText, body_in};
 ghost use Rattle.compose_drafts.specs.Drafts.{Builds, IsMessage, parties_of, saved_parties_of};
 ghost use Rattle.compose_drafts.specs.Lines.{IsLines};
-ghost use Rattle.compose_drafts.specs.Message.{message};
+ghost use Rattle.compose_drafts.specs.Message.{body, message};
+ghost use Rattle.compose_drafts.specs.Paragraphs.{coded, is_seven_bit};
 
 use crate::DraftFault;
 use crate::bodies::{body_of, is_seven_bit, push_coded};
@@ -17,7 +19,7 @@ use std::alloc::{AllocError, Global};
 /// Returns the message of a draft that is sent as `identity` at `moment`, in seconds since 1970.
 ///
 /// Its date is the moment in UTC, or the first second of 1970 if the moment's year hasn't four digits. The faults are tried in the order of
-/// `DraftFault`: `to` before `cc`, of which a blank one is not read, and the identity's address last.
+/// `DraftFault`: `to` before `cc`, and then the identity's address. A blank `to` or `cc` is passed over.
 pub fn build(
     alloc: Global,
     draft: &Draft,
@@ -26,6 +28,7 @@ pub fn build(
 ) -> Result<Vec<u8>, DraftFault>
     ensures equals { Builds draft.now (parties_of draft.now identity.now) moment result }
     ensures lines { IfOk result (λ bytes. IsLines bytes.items) }
+    ensures body { IfOk result (λ bytes. CarriesText draft.now (body_in bytes.items)) }
 {
     let parties = read_parties(alloc, draft, identity)?;
     let bytes = dated_message(alloc, draft, &parties, moment)?;
@@ -43,6 +46,7 @@ pub fn build_draft(
 ) -> Result<Vec<u8>, DraftFault>
     ensures equals { Builds draft.now (saved_parties_of draft.now identity.now) moment result }
     ensures lines { IfOk result (λ bytes. IsLines bytes.items) }
+    ensures body { IfOk result (λ bytes. CarriesText draft.now (body_in bytes.items)) }
 {
     let parties = saved_parties(alloc, draft, identity)?;
     let bytes = dated_message(alloc, draft, &parties, moment)?;
@@ -56,7 +60,8 @@ fn dated_message(
     parties: &Parties,
     moment: i64,
 ) -> Result<Vec<u8>, AllocError>
-    ensures { IfOk result (λ bytes. IsMessage draft.now parties.now moment bytes.items) }
+    ensures equals { IfOk result (λ bytes. IsMessage draft.now parties.now moment bytes.items) }
+    ensures body { IfOk result (λ _. CarriesText draft.now (coded (is_seven_bit (body draft.now)) (body draft.now))) }
 {
     message(alloc, draft, parties, clock_at(moment))
 }
@@ -69,7 +74,8 @@ fn message(
     parties: &Parties,
     clock: DateTime,
 ) -> Result<Vec<u8>, AllocError>
-    ensures { IfOk result (λ bytes. bytes.items ≡ message draft.now parties.now clock) }
+    ensures equals { IfOk result (λ bytes. bytes.items ≡ message draft.now parties.now clock) }
+    ensures body { IfOk result (λ _. CarriesText draft.now (coded (is_seven_bit (body draft.now)) (body draft.now))) }
 {
     let body = body_of(alloc, draft.text.as_str())?;
     let seven_bit = is_seven_bit(body.as_bytes());

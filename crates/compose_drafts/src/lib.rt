@@ -8,6 +8,7 @@ mod bodies;
 mod boxes;
 mod building;
 mod dates;
+mod envelope;
 mod fields;
 mod laws;
 mod parties;
@@ -15,6 +16,7 @@ mod references;
 mod words;
 
 pub use building::{build, build_draft};
+pub use envelope::recipients;
 pub use laws::fields_are_read;
 use mail_values::Text;
 use std::alloc::AllocError;

@@ -27,7 +27,7 @@ pub struct Parties {
 }
 
 /// Whether a text has nothing but spaces.
-fn is_blank(text: &[u8]) -> bool
+pub fn is_blank(text: &[u8]) -> bool
     ensures { result ≡ is_blank text.now }
 {
     text.iter().all(|byte| *byte == b' ')
@@ -43,9 +43,9 @@ fn not_address(alloc: Global, field: &str, at: usize) -> DraftFault
     }
 }
 
-/// Reads the boxes of a field, of which a blank one has none.
+/// Returns the boxes of a field. A blank field has none.
 #[tactic(auto, unfolding(crate::specs::Drafts::recipients_of))]
-fn recipients(alloc: Global, field: &str, text: &str) -> Result<Vec<Mailbox>, DraftFault>
+pub fn boxes_in(alloc: Global, field: &str, text: &str) -> Result<Vec<Mailbox>, DraftFault>
     ensures { ReadsAs (λ v. v.items) result (recipients_of field.now text.now) }
 {
     if is_blank(text.as_bytes()) {
@@ -149,8 +149,8 @@ fn all_parties(
 fn sent_parties(alloc: Global, draft: &Draft, identity: &Identity) -> Result<Parties, DraftFault>
     ensures { ReadsAs (λ parties. parties) result (sent_parties_of draft.now identity.now) }
 {
-    let to = recipients(alloc, "to", draft.to.as_str())?;
-    let cc = recipients(alloc, "cc", draft.cc.as_str())?;
+    let to = boxes_in(alloc, "to", draft.to.as_str())?;
+    let cc = boxes_in(alloc, "cc", draft.cc.as_str())?;
     check_sender(alloc, identity.address.as_str())?;
     check_len(draft.text.as_str())?;
     Ok(all_parties(alloc, identity, &to, &cc)?)

@@ -1,5 +1,5 @@
 use account_pictures::Identity;
-use compose_drafts::{DraftFault, build, build_draft};
+use compose_drafts::{DraftFault, build, build_draft, recipients};
 use mail_values::Text;
 use site_asks::Draft;
 use std::alloc::{AllocError, Global};
@@ -124,6 +124,42 @@ fn keeps_the_limit_of_texts(rt: HostRuntime) -> Result<(), Fail> {
             fault => shown(alloc, fault)?,
         };
         assert_eq!(rt; answer.as_str(), want);
+    }
+    Ok(())
+}
+
+/// The addresses to which a draft is sent, each with `;`, or its fault.
+fn sent_to(alloc: Global, to: &str, cc: &str) -> Result<String, AllocError> {
+    let mut draft = draft(alloc, to, "", "", "")?;
+    draft.cc = Text::from_text(alloc, cc)?;
+    match recipients(alloc, &draft) {
+        Ok(found) => {
+            let mut out = String::new(alloc);
+            for one in &found {
+                out.push_str(one.as_str())?;
+                out.push_str(";")?;
+            }
+            Ok(out)
+        }
+        Err(fault) => shown(alloc, Err(fault)),
+    }
+}
+
+#[test]
+fn sends_to_all_boxes(rt: HostRuntime) -> Result<(), Fail> {
+    let alloc = rt.alloc();
+    for (to, cc, want) in [
+        (
+            "Ann <ann@c.example>, bob@d.example",
+            "bob@d.example",
+            "ann@c.example;bob@d.example;bob@d.example;",
+        ),
+        (" ", "a@b", "a@b;"),
+        (" ", "", "nobody"),
+        ("a@b", "bob@", "cc 4"),
+    ] {
+        let found = sent_to(alloc, to, cc)?;
+        assert_eq!(rt; found.as_str(), want, "{to} {cc}");
     }
     Ok(())
 }

@@ -2,6 +2,7 @@ use mir.Syntax.{w64}
 use Rattle.std.proofs.Common.{subst}
 use Rattle.std.proofs.lemmas.Int.{to_z-of_z}
 use Rattle.compose_drafts.specs.Drafts.{IsMessage, parties_of}
+use Rattle.compose_drafts.proofs.Carried.{built_carries}
 use Rattle.compose_drafts.proofs.MessageLines.{built_lines, parties_lines}
 use Rattle.compose_drafts.proofs.building.build.Goals as goal
 
@@ -9,9 +10,13 @@ pub returns-clause-equals : goal.returns-clause-equals
 returns-clause-equals c = record {
   parties = c.in_ok-parties.parties;
   parties_are = c.in_ok-parties.ensures;
-  built = subst (λ m. IsMessage c.args.draft.now c.in_ok-parties.parties m c.in_ok-bytes.bytes.items) (to_z-of_z w64 c.args.moment c.ranges.moment) c.in_ok-bytes.ensures;
+  built = subst (λ m. IsMessage c.args.draft.now c.in_ok-parties.parties m c.in_ok-bytes.bytes.items) (to_z-of_z w64 c.args.moment c.ranges.moment) c.in_ok-bytes.ensures.equals;
 }
 
 pub returns-clause-lines : goal.returns-clause-lines
 returns-clause-lines c =
-    built_lines c.args.draft.now (parties_of c.args.draft.now c.args.identity.now) c.in_ok-parties.parties _ c.in_ok-bytes.bytes.items (parties_lines c.args.draft.now c.args.identity.now) c.in_ok-parties.ensures c.in_ok-bytes.ensures
+    built_lines c.args.draft.now (parties_of c.args.draft.now c.args.identity.now) c.in_ok-parties.parties _ c.in_ok-bytes.bytes.items (parties_lines c.args.draft.now c.args.identity.now) c.in_ok-parties.ensures c.in_ok-bytes.ensures.equals
+
+pub returns-clause-body : goal.returns-clause-body
+returns-clause-body c =
+    built_carries c.args.draft.now (parties_of c.args.draft.now c.args.identity.now) c.in_ok-parties.parties _ c.in_ok-bytes.bytes.items (parties_lines c.args.draft.now c.args.identity.now) c.in_ok-parties.ensures c.in_ok-bytes.ensures.equals c.in_ok-bytes.ensures.body
