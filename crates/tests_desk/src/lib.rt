@@ -4,6 +4,8 @@
 #[cfg(test)]
 mod account;
 #[cfg(test)]
+mod sessions;
+#[cfg(test)]
 mod turns;
 #[cfg(test)]
 mod visits;

@@ -1,0 +1,4 @@
+pub mod Positions
+pub mod Rosters
+pub mod Admitting
+mod Examples
