@@ -264,10 +264,10 @@ add_id_grows names id = by_place (position (is_named id) names) refl
         let at = known.1 in
         (omega (arith, same), omega (arith, same, number, less, at))
 
-abbrev Below : References → Type 0
+abbrev pub Below : References → Type 0
 Below r = All (λ node. node < length r.names) r.numbers
 
-ids_grow : (r : References) (ids : List (List ℕ)) → Below r → Below (fold number_id r ids) × (length r.names ≤ length (fold number_id r ids).names)
+pub ids_grow : (r : References) (ids : List (List ℕ)) → Below r → Below (fold number_id r ids) × (length r.names ≤ length (fold number_id r ids).names)
 ids_grow r [] below = (below, omega arith)
 ids_grow r (id ∷ ids) below =
     let one = add_id_grows r.names id in
@@ -279,7 +279,7 @@ ids_grow r (id ∷ ids) below =
     let further = rest.1 in
     (rest.0, omega (arith, longer, further))
 
-name_grows : (names : List Name) (name : Name) → (length names ≤ length (add_name names name)) × (number_for names name < length (add_name names name))
+pub name_grows : (names : List Name) (name : Name) → (length names ≤ length (add_name names name)) × (number_for names name < length (add_name names name))
 unfolding add_name number_for
 name_grows names None = let longer : length (names ++ None ∷ []) ≡ length names + 1 = length-append names (None ∷ []) in (omega (arith, longer), omega (arith, longer))
 name_grows names (Some id) = add_id_grows names id

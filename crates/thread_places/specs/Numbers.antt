@@ -1,5 +1,5 @@
 -- What the code's structs hold, in the terms of the definitions.
-use Rattle.std.specs.Prelude.{◌≡◌, ℕ, ◌<◌, false, IfSome, None, List, [], length, position, get_or, pos}
+use Rattle.std.specs.Prelude.{◌≡◌, ℕ, ◌<◌, ◌≤◌, ◌+◌, ◌∷◌, ◌++◌, false, IfSome, None, List, [], length, position, get_or, pos}
 use Rattle.std.specs.List.{All}
 use Rattle.std.specs.BTreeMap.{get_by}
 use Rattle.std.specs.Cmp.Lexicographic.{slice_cmp}
@@ -8,8 +8,9 @@ use Rattle.thread_places.specs.declared.facts.Facts.{Facts}
 use Rattle.thread_places.specs.declared.names.Names.{Names}
 use Rattle.thread_places.specs.declared.numbering.Numberer.{Numberer}
 use Rattle.thread_places.specs.declared.places.Seen.{Seen}
-use Rattle.thread_places.specs.Links.{is_among}
-use Rattle.thread_places.specs.Messages.{Name, Entry, References, Numbering, nodes, is_named}
+use Rattle.thread_places.specs.declared.linking.Links.{Links}
+use Rattle.thread_places.specs.Links.{HasLinks, is_among}
+use Rattle.thread_places.specs.Messages.{Name, Entry, References, Numbering, nodes, is_named, number_messages, links_of}
 
 -- what the definitions read past the end of a list
 abbrev pub no_facts : Facts
@@ -38,6 +39,13 @@ pub record HasNames (names : List Name) (nodes : List ℕ) (t : Names) : Type 0 
 pub record IsNumbered (n : Numbering) (t : Numberer) : Type 0 where
   pub names : HasNames n.names (nodes n.messages) t.names
   pub entries : t.entries.items ≡ n.messages
+
+-- the nodes of these messages and the links between them
+pub record IsLinked (facts : List Facts) (l : Links) : Type 0 where
+  pub numbered : IsNumbered (number_messages facts) l.numberer
+  pub holds : HasLinks (links_of (number_messages facts).messages) l.arena
+  pub size : length l.arena.parents ≡ length (number_messages facts).names
+  pub stamp : l.arena.stamp ≤ length facts + 1
 
 -- the nodes of messages, and those that they refer to
 abbrev pub AreBelow : ℕ → List Entry → Type 0
