@@ -7,3 +7,4 @@ pub mod OnceLemmas
 pub mod RankLemmas
 pub mod RewritingLemmas
 pub mod UidLemmas
+pub mod RewritingExamples
