@@ -1,15 +1,17 @@
 -- What the code's structs hold, in the terms of the definitions.
-use Rattle.std.specs.Prelude.{◌≡◌, ℕ, ◌<◌, false, IfSome, None, List, [], length, position, get_or, pos}
+use Rattle.std.specs.Prelude.{◌≡◌, ℕ, ◌<◌, ◌≤◌, ◌+◌, ◌∷◌, ◌++◌, false, IfSome, None, List, [], length, position, get_or, pos}
 use Rattle.std.specs.List.{All}
 use Rattle.std.specs.BTreeMap.{get_by}
 use Rattle.std.specs.Cmp.Lexicographic.{slice_cmp}
-use Rattle.std.specs.Ordering.{nat_cmp}
+use Rattle.std.specs.Hash.FoldHasher.{initial, write, finish}
+use Rattle.std.specs.Ordering.{nat_cmp, ordering_then}
 use Rattle.thread_places.specs.declared.facts.Facts.{Facts}
 use Rattle.thread_places.specs.declared.names.Names.{Names}
 use Rattle.thread_places.specs.declared.numbering.Numberer.{Numberer}
 use Rattle.thread_places.specs.declared.places.Seen.{Seen}
-use Rattle.thread_places.specs.Links.{is_among}
-use Rattle.thread_places.specs.Messages.{Name, Entry, References, Numbering, nodes, is_named}
+use Rattle.thread_places.specs.declared.linking.Links.{Links}
+use Rattle.thread_places.specs.Links.{HasLinks, is_among}
+use Rattle.thread_places.specs.Messages.{Name, Entry, References, Numbering, nodes, is_named, number_messages, links_of}
 
 -- what the definitions read past the end of a list
 abbrev pub no_facts : Facts
@@ -28,16 +30,27 @@ pub record Pending : Type 0 where
   pub messages : List Entry
   pub references : References
 
+-- a number made of an identifier: two that differ mostly have two numbers
+unfoldable pub digest : List ℕ → ℕ
+digest id = finish (write initial id)
+
 -- the numbers are those of these names, and the nodes that messages have are flagged
 pub record HasNames (names : List Name) (nodes : List ℕ) (t : Names) : Type 0 where
   pub count : length t.taken.items ≡ length names
-  pub number : (id : List ℕ) → get_by (λ k. slice_cmp nat_cmp id k.items) t.numbers ≡ position (is_named id) names
+  pub number : (id : List ℕ) → get_by (λ k. ordering_then (nat_cmp (digest id) k.0) (slice_cmp nat_cmp id k.1.items)) t.numbers ≡ position (is_named id) names
   pub taken : (node : ℕ) → node < length names → get_or t.taken.items node false ≡ is_among node nodes
   pub inside : All (λ node. node < length names) nodes
 
 pub record IsNumbered (n : Numbering) (t : Numberer) : Type 0 where
   pub names : HasNames n.names (nodes n.messages) t.names
   pub entries : t.entries.items ≡ n.messages
+
+-- the nodes of these messages and the links between them
+pub record IsLinked (facts : List Facts) (l : Links) : Type 0 where
+  pub numbered : IsNumbered (number_messages facts) l.numberer
+  pub holds : HasLinks (links_of (number_messages facts).messages) l.arena
+  pub size : length l.arena.parents ≡ length (number_messages facts).names
+  pub stamp : l.arena.stamp ≤ length facts + 1
 
 -- the nodes of messages, and those that they refer to
 abbrev pub AreBelow : ℕ → List Entry → Type 0

@@ -4,6 +4,7 @@
 mod arena;
 mod dates;
 mod facts;
+mod linked;
 mod linking;
 mod names;
 mod numbering;
@@ -11,5 +12,6 @@ mod places;
 
 pub use dates::date_order;
 pub use facts::{Facts, copy_all};
-pub use linking::{Places, message_places};
+pub use linked::Linked;
+pub use linking::Places;
 pub use places::{Place, entry, set_first};

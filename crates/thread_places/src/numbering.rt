@@ -1,7 +1,7 @@
 //! The nodes of messages and of those that they refer to.
 ghost use Rattle.std.specs.Prelude.{◌≡◌, ◌<◌, ◌≤◌, ℕ, List, [], ◌∷◌, ◌++◌, IfOk, OnOk, length, map, take, get_or};
 ghost use Rattle.thread_places.specs.Messages.{Entry, Name, References, Numbering, nodes, add_id, number_of, number_ids, add_numbered, number_message, number_messages};
-ghost use Rattle.thread_places.specs.Numbers.{HasNames, Known, Pending, IsNumbered, AreBelow, no_facts};
+ghost use Rattle.thread_places.specs.Numbers.{HasNames, Known, Pending, IsNumbered, no_facts};
 
 use crate::facts::Facts;
 use crate::names::Names;
@@ -59,31 +59,23 @@ impl Names {
     }
 }
 
-/// Messages whose nodes are numbered, and how many nodes there are.
+/// Messages whose nodes are numbered.
 #[derive(Drop)]
-pub struct Messages {
-    pub entries: Vec<Numbered>,
-    pub node_count: usize,
-}
-
-/// Messages that are being numbered.
-#[derive(Drop)]
-struct Numberer {
-    names: Names,
+pub struct Numberer {
+    pub names: Names,
     entries: Vec<Numbered>,
 }
 
 impl Numberer {
-    fn new(alloc: Global) -> Self
-        ensures { IsNumbered (record { names = []; messages = [] }) result }
+    /// Returns the messages.
+    pub fn entries(&self) -> &[Numbered]
+        ensures { result.now ≡ self.now.entries.items }
     {
-        Numberer {
-            names: Names::new(alloc),
-            entries: Vec::new(alloc),
-        }
+        &self.entries
     }
 
-    fn add(&mut self, alloc: Global, facts: &Facts) -> Result<(), AllocError>
+    /// Numbers the nodes of a further message.
+    pub fn add(&mut self, alloc: Global, facts: &Facts) -> Result<(), AllocError>
         ghost before: { Numbering }
         requires { IsNumbered before self.old }
         ensures { OnOk result (IsNumbered (number_message before facts.now) self.new) }
@@ -122,16 +114,15 @@ impl Numberer {
 }
 
 /// Numbers the nodes of messages and of those that they refer to.
-pub fn number_messages(alloc: Global, facts: &[Facts]) -> Result<Messages, AllocError>
-    ensures entries { IfOk result (λ m. m.entries.items ≡ (number_messages facts.now).messages) }
-    ensures inside { IfOk result (λ m. AreBelow m.node_count m.entries.items) }
+pub fn number_messages(alloc: Global, facts: &[Facts]) -> Result<Numberer, AllocError>
+    ensures { IfOk result (λ numberer. IsNumbered (number_messages facts.now) numberer) }
 {
-    let mut numberer = Numberer::new(alloc);
+    let mut numberer = Numberer {
+        names: Names::new(alloc),
+        entries: Vec::new(alloc),
+    };
     for i in 0..facts.len() {
         numberer.add_facts(alloc, facts, i)?;
     }
-    Ok(Messages {
-        node_count: numberer.names.len(),
-        entries: numberer.entries,
-    })
+    Ok(numberer)
 }

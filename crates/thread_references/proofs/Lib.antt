@@ -2,3 +2,9 @@ pub mod Examples
 pub mod TreeLemmas
 pub mod CountLemmas
 pub mod ListingLemmas
+pub mod VisitLemmas
+pub mod OnceLemmas
+pub mod RankLemmas
+pub mod RewritingLemmas
+pub mod UidLemmas
+pub mod RewritingExamples

@@ -1,5 +1,5 @@
 //! Threads of messages.
-ghost use Rattle.std.specs.Prelude.{◌≡◌, ◌<◌, ◌≤◌, ◌+◌, ℕ, List, [], ◌∷◌, ◌++◌, IfOk, OnOk, OnErr, length, map, get_or};
+ghost use Rattle.std.specs.Prelude.{◌≡◌, ◌<◌, ◌≤◌, ◌+◌, ℕ, List, [], ◌∷◌, ◌++◌, IfOk, OnOk, OnErr, length, map, get_or, take, IsPermutation};
 ghost use Rattle.std.specs.List.{All};
 ghost use Rattle.thread_places.specs.Dates.{date_order, in_order};
 ghost use Rattle.thread_references.specs.Subjects.{pruned_parents, parents_of};
@@ -11,35 +11,34 @@ use crate::subjects::{MessageHeadings, merge_roots};
 use crate::trees::{all_children, roots};
 use std::alloc::{AllocError, Global};
 use std::marker::Model;
-use thread_places::{Facts, copy_all, date_order, message_places};
+use thread_places::{Facts, Linked, date_order};
 
 /// Returns the parents of messages and dummies before trees are merged.
 fn pruned_parents(
     alloc: Global,
-    facts: &[Facts],
+    linked: &Linked,
     order: &[usize],
 ) -> Result<Vec<Option<usize>>, AllocError>
-    requires order { order.now ≡ date_order facts.now }
-    requires inside { All (λ place. place < length facts.now) order.now }
-    requires room { length facts.now < 2000000000 }
-    ensures { IfOk result (λ parents. parents.items ≡ pruned_parents facts.now) }
+    requires order { order.now ≡ date_order linked.now }
+    requires inside { All (λ place. place < length linked.now) order.now }
+    ensures { IfOk result (λ parents. parents.items ≡ pruned_parents linked.now) }
 {
-    let found = message_places(alloc, facts, order)?;
+    let found = linked.places(alloc, order)?;
     prune(alloc, found.node_count, &found.places)
 }
 
 /// Returns the parents of messages and dummies.
 fn parents(
     alloc: Global,
-    facts: &[Facts],
+    linked: &Linked,
     order: &[usize],
 ) -> Result<Vec<Option<usize>>, AllocError>
-    requires order { order.now ≡ date_order facts.now }
-    requires inside { All (λ place. place < length facts.now) order.now }
-    requires room { length facts.now < 2000000000 }
-    ensures { IfOk result (λ parents. parents.items ≡ parents_of facts.now) }
+    requires order { order.now ≡ date_order linked.now }
+    requires inside { All (λ place. place < length linked.now) order.now }
+    ensures { IfOk result (λ parents. parents.items ≡ parents_of linked.now) }
 {
-    let pruned = pruned_parents(alloc, facts, order)?;
+    let pruned = pruned_parents(alloc, linked, order)?;
+    let facts = linked.facts();
     let headings = MessageHeadings::new(alloc, facts, order)?;
     let children = all_children(alloc, facts.len(), &pruned)?;
     let roots = roots(alloc, facts.len(), &pruned, &children)?;
@@ -76,17 +75,15 @@ struct Trees {
 }
 
 impl Trees {
-    /// Threads messages. More than the arena has room for are answered as a want of memory.
-    fn new(alloc: Global, facts: &[Facts]) -> Result<Self, AllocError>
-        ensures uids { IfOk result (λ trees. trees.uids.items ≡ uids_of facts.now) }
-        ensures parents { IfOk result (λ trees. trees.parents.items ≡ parents_of facts.now) }
-        ensures roots { IfOk result (λ trees. trees.roots ≡ root_count facts.now) }
+    /// Threads messages that are linked.
+    fn new(alloc: Global, linked: &Linked) -> Result<Self, AllocError>
+        ensures uids { IfOk result (λ trees. trees.uids.items ≡ uids_of linked.now) }
+        ensures parents { IfOk result (λ trees. trees.parents.items ≡ parents_of linked.now) }
+        ensures roots { IfOk result (λ trees. trees.roots ≡ root_count linked.now) }
     {
-        if facts.len() >= 2_000_000_000 {
-            return Err(AllocError);
-        }
+        let facts = linked.facts();
         let order = date_order(alloc, facts)?;
-        let parents = parents(alloc, facts, &order)?;
+        let parents = parents(alloc, linked, &order)?;
         let children = all_children(alloc, facts.len(), &parents)?;
         let roots = roots(alloc, facts.len(), &parents, &children)?.len();
         let uids = uids(alloc, facts, &order)?;
@@ -98,10 +95,45 @@ impl Trees {
     }
 }
 
+/// Links a further message, and threads all. After an error the first messages are as they were.
+fn add_linked(alloc: Global, linked: &mut Linked, facts: Facts) -> Result<Trees, AllocError>
+    ensures linked { OnOk result (linked.new ≡ linked.old ++ facts ∷ []) }
+    ensures uids { IfOk result (λ trees. trees.uids.items ≡ uids_of linked.new) }
+    ensures parents { IfOk result (λ trees. trees.parents.items ≡ parents_of linked.new) }
+    ensures roots { IfOk result (λ trees. trees.roots ≡ root_count linked.new) }
+    ensures kept_on_err { OnErr result (take (length linked.old) linked.new ≡ linked.old) }
+{
+    linked.add(alloc, facts)?;
+    Trees::new(alloc, linked)
+}
+
+/// Links further messages. After an error the first ones are as they were.
+fn link_all(alloc: Global, linked: &mut Linked, facts: &[Facts]) -> Result<(), AllocError>
+    ensures linked { OnOk result (linked.new ≡ linked.old ++ facts.now) }
+    ensures kept_on_err { OnErr result (take (length linked.old) linked.new ≡ linked.old) }
+{
+    for i in 0..facts.len() {
+        linked.add(alloc, facts[i].copy(alloc)?)?;
+    }
+    Ok(())
+}
+
+/// Links further messages, and threads all. After an error the first messages are as they were.
+fn add_all_linked(alloc: Global, linked: &mut Linked, facts: &[Facts]) -> Result<Trees, AllocError>
+    ensures linked { OnOk result (linked.new ≡ linked.old ++ facts.now) }
+    ensures uids { IfOk result (λ trees. trees.uids.items ≡ uids_of linked.new) }
+    ensures parents { IfOk result (λ trees. trees.parents.items ≡ parents_of linked.new) }
+    ensures roots { IfOk result (λ trees. trees.roots ≡ root_count linked.new) }
+    ensures kept_on_err { OnErr result (take (length linked.old) linked.new ≡ linked.old) }
+{
+    link_all(alloc, linked, facts)?;
+    Trees::new(alloc, linked)
+}
+
 /// Threads of messages, seen as the facts that they were made of.
 #[derive(Drop)]
 pub struct Forest {
-    facts: Vec<Facts>,
+    linked: Linked,
     trees: Trees,
     added: usize,
 }
@@ -113,9 +145,9 @@ impl Model for Forest {
 
     ghost Value = { Threaded };
 
-    ghost view = { λ f. record { facts = f.facts.items; added = f.added } };
+    ghost view = { λ f. record { facts = f.linked; added = f.added } };
 
-    ghost invariant = { λ f. (f.trees.uids.items ≡ uids_of f.facts.items) × (f.trees.parents.items ≡ parents_of f.facts.items) × (f.trees.roots ≡ root_count f.facts.items) × (f.added ≤ length f.facts.items) };
+    ghost invariant = { λ f. (f.trees.uids.items ≡ uids_of f.linked) × (f.trees.parents.items ≡ parents_of f.linked) × (f.trees.roots ≡ root_count f.linked) × (f.added ≤ length f.linked) };
 }
 
 /// Threads messages, which come by UID.
@@ -123,9 +155,10 @@ pub fn threads(alloc: Global, facts: &[Facts]) -> Result<Forest, AllocError>
     ensures facts { IfOk result (λ forest. forest.facts ≡ facts.now) }
     ensures none_added { IfOk result (λ forest. forest.added ≡ 0) }
 {
-    let trees = Trees::new(alloc, facts)?;
+    let linked = Linked::new(alloc, facts)?;
+    let trees = Trees::new(alloc, &linked)?;
     Ok(Forest {
-        facts: copy_all(alloc, facts)?,
+        linked,
         trees,
         added: 0,
     })
@@ -141,7 +174,8 @@ impl Forest {
 
     /// Returns the UID and the depth of each message: roots from the last to the first, children in order of date, and no dummies.
     pub fn flat(&self, alloc: Global) -> Result<Vec<(u32, u32)>, AllocError>
-        ensures { IfOk result (λ rows. rows.items ≡ flat_of self.now.facts) }
+        ensures equals { IfOk result (λ rows. rows.items ≡ flat_of self.now.facts) }
+        ensures each_once { IfOk result (λ rows. IsPermutation (map (λ f. f.uid) self.now.facts) (map (λ r. r.0) rows.items)) }
     {
         flat(alloc, &self.trees.uids, &self.trees.parents)
     }
@@ -152,15 +186,36 @@ impl Forest {
         ensures added { OnOk result (self.new.added ≡ self.old.added + 1) }
         ensures unchanged_on_err { OnErr result (self.new ≡ self.old) }
     {
-        self.facts.push(facts)?;
-        match Trees::new(alloc, &self.facts) {
+        let count = self.linked.facts().len();
+        match add_linked(alloc, &mut self.linked, facts) {
             Ok(trees) => {
                 self.trees = trees;
                 self.added += 1;
                 Ok(())
             }
             Err(error) => {
-                self.facts.pop();
+                self.linked.truncate(count);
+                Err(error)
+            }
+        }
+    }
+
+    /// Threads further messages, of ascending and greater UIDs. Beside what their references cost this costs as much as one `add`. After
+    /// an error the forest is as it was.
+    pub fn add_all(&mut self, alloc: Global, facts: &[Facts]) -> Result<(), AllocError>
+        ensures facts { OnOk result (self.new.facts ≡ self.old.facts ++ facts.now) }
+        ensures added { OnOk result (self.new.added ≡ self.old.added + length facts.now) }
+        ensures unchanged_on_err { OnErr result (self.new ≡ self.old) }
+    {
+        let count = self.linked.facts().len();
+        match add_all_linked(alloc, &mut self.linked, facts) {
+            Ok(trees) => {
+                self.trees = trees;
+                self.added += facts.len();
+                Ok(())
+            }
+            Err(error) => {
+                self.linked.truncate(count);
                 Err(error)
             }
         }
@@ -170,7 +225,7 @@ impl Forest {
     pub fn facts(&self) -> &[Facts]
         ensures { result.now ≡ self.now.facts }
     {
-        &self.facts
+        self.linked.facts()
     }
 
     /// Returns how many messages were added since the threads were made.

@@ -2,10 +2,12 @@
 #![tactic(auto)]
 
 mod forest;
+mod laws;
 mod listing;
 mod pruning;
 mod subjects;
 mod trees;
 
 pub use forest::{Forest, threads};
+pub use laws::pruning_is_rewriting;
 pub use thread_places::Facts;

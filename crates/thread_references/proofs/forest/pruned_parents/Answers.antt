@@ -7,8 +7,8 @@ use Rattle.thread_references.proofs.forest.pruned_parents.Goals as goal
 
 pub prune-requires-clause-room : goal.prune-requires-clause-room
 prune-requires-clause-room c =
-    let long = ap length (c.deref.ensures.value ∙ c.in_ok-found.ensures.places) ∙ length_places c.args.facts.now in
-    let room = c.requires.room in
+    let long = ap length (c.deref.ensures.value ∙ c.in_ok-found.ensures.places) ∙ length_places c.args.linked.now in
+    let room = c.in_ok-found.ensures.few in
     omega (arith, long, room)
 
 pub returns : goal.returns

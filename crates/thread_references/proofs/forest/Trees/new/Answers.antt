@@ -7,4 +7,4 @@ pub returns-clause-roots : goal.returns-clause-roots
 unfolding root_count
 returns-clause-roots c =
     let size : c.len-roots.result ≡ length c.in_ok-roots.field-0.items = search rules in
-    size ∙ ap length (c.in_ok-roots.ensures ∙ ap (roots_of (length c.args.facts.now)) (c.deref-3.ensures.value ∙ c.in_ok-parents.ensures))
+    size ∙ ap length (c.in_ok-roots.ensures ∙ ap (λ f. roots_of (length f) c.deref-3.result.now) c.facts-facts.ensures ∙ ap (roots_of (length c.args.linked.now)) (c.deref-3.ensures.value ∙ c.in_ok-parents.ensures))
