@@ -4,8 +4,12 @@
 Build the program first, by `tools/build bench`. Then run this file, from anywhere, with the number of runs of each measurement (3 by
 default). A figure is the least time of those runs in milliseconds, of threading alone: the time to read the facts is subtracted. Each
 shape should take at most 20 times as long as an ordinary mailbox of as many bytes, and half as many messages about half as long. One
-shape may cost more: messages that each break a link of one long chain (15 s for 50,000, 2 s for 20,000). One message with 1,000,000
-references should take at most 1 s.
+shape may cost more: messages that each break a link of one long chain (15 s for 50,000, 2 s for 20,000), threaded at once, or added by one
+call to a forest without messages. One message with 1,000,000 references should take at most 1 s.
+
+The last lines add the messages of such a chain one by one, each by a call of its own. Each call links its message to the links that are
+kept, and then sorts, prunes and merges all messages, so that twice as many take about four times as long; no bound is met there for
+20,000, and only fewer are measured.
 """
 import os
 import random
@@ -89,8 +93,8 @@ def milliseconds(work, rows, times):
     return min(int(row.split()[0]) for row in done.stderr.split(b"\n") if row) / 1000
 
 
-def threading(rows, times):
-    return max(milliseconds("list-threads", rows, times) - milliseconds("read-facts", rows, times), 0.001)
+def threading(rows, times, work="list-threads"):
+    return max(milliseconds(work, rows, times) - milliseconds("read-facts", rows, times), 0.001)
 
 
 def main():
@@ -109,6 +113,13 @@ def main():
         print(f"{shape.__name__} {count}: {took:.0f} ms")
         if took > limit:
             failed.append(f"{shape.__name__} {count}")
+    for count, limit in ((20_000, 2_000), (50_000, 15_000)):
+        took = threading(breaks(count), times, "add-all-threads")
+        print(f"breaks added at once {count}: {took:.0f} ms")
+        if took > limit:
+            failed.append(f"breaks added at once {count}")
+    for count in (1_000, 2_000, 4_000):
+        print(f"breaks added one by one {count}: {threading(breaks(count), 1, 'add-threads'):.0f} ms")
     print("over a bound:", ", ".join(failed) if failed else "none")
     return 1 if failed else 0
 

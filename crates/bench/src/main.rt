@@ -28,7 +28,7 @@ const USAGE: &str = "usage: bench WORK [TIMES]
        bench stream-base64|check
 works: decode-base64 decode-quoted encode-base64 encode-quoted tree refer[-below]
        responses[-1|-64|-4096] hear[-1|-64|-65536] read-flowed[-del-sp] write-flowed[-quoted] build spans tags tokens print-tokens
-       wash[-images|-below] print-wash read-facts threads list-threads print-threads";
+       wash[-images|-below] print-wash read-facts threads list-threads add[-all]-threads print-threads";
 
 /// Writes the microseconds of each run to standard error, and then the result.
 fn run(rt: &HostRuntime, work: Work, times: u32) -> io::Result<()> {

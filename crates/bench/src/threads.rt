@@ -66,3 +66,21 @@ pub fn list_threads(alloc: Global, input: &str) -> Result<String, AllocError> {
     }
     Ok(text)
 }
+
+/// Adds messages one by one to a forest without messages.
+pub fn count_added(alloc: Global, input: &str) -> Result<usize, AllocError> {
+    let facts = mailbox(alloc, input)?;
+    let mut forest = threads(alloc, &[])?;
+    for one in facts {
+        forest.add(alloc, one)?;
+    }
+    Ok(forest.flat(alloc)?.len())
+}
+
+/// Adds all messages at once to a forest without messages.
+pub fn count_added_at_once(alloc: Global, input: &str) -> Result<usize, AllocError> {
+    let facts = mailbox(alloc, input)?;
+    let mut forest = threads(alloc, &[])?;
+    forest.add_all(alloc, &facts)?;
+    Ok(forest.flat(alloc)?.len())
+}

@@ -32,6 +32,8 @@ pub enum Work {
     ReadFacts,
     Threads,
     ListThreads,
+    AddThreads,
+    AddAllThreads,
     PrintThreads,
 }
 
@@ -93,6 +95,8 @@ pub fn work_named(word: &str) -> Option<Work> {
         "read-facts" => Some(Work::ReadFacts),
         "threads" => Some(Work::Threads),
         "list-threads" => Some(Work::ListThreads),
+        "add-threads" => Some(Work::AddThreads),
+        "add-all-threads" => Some(Work::AddAllThreads),
         "print-threads" => Some(Work::PrintThreads),
         _ => None,
     }
@@ -120,6 +124,8 @@ pub fn perform(alloc: Global, work: Work, input: &Input<'_>) -> Result<usize, Al
         Work::ReadFacts => threads::count_facts(alloc, input.text),
         Work::Threads => threads::count_roots(alloc, input.text),
         Work::ListThreads => threads::count_rows(alloc, input.text),
+        Work::AddThreads => threads::count_added(alloc, input.text),
+        Work::AddAllThreads => threads::count_added_at_once(alloc, input.text),
         Work::PrintThreads => Ok(threads::list_threads(alloc, input.text)?.len()),
     }
 }
@@ -148,6 +154,8 @@ pub fn result_of(alloc: Global, work: Work, input: &Input<'_>) -> Result<Vec<u8>
         | Work::Hear { .. }
         | Work::ReadFacts
         | Work::Threads
+        | Work::AddThreads
+        | Work::AddAllThreads
         | Work::ListThreads => {
             let count = perform(alloc, work, input)?;
             Ok(format!(in alloc; "{count}\n")?.into_bytes())

@@ -108,14 +108,18 @@ fn adds_messages(rt: HostRuntime) -> Result<(), Fail> {
         (forest.roots(), forest.facts().len(), forest.added()),
         (1, 1, 0)
     );
+    let mut other = threads(alloc, &first)?;
+    other.add_all(alloc, &later)?;
     for facts in later {
         forest.add(alloc, facts)?;
     }
-    let text = shown(alloc, &forest)?;
-    assert_eq!(rt; text.as_str(), "1:1 2:1 3:1 ");
-    assert_eq!(rt;
-        (forest.roots(), forest.facts().len(), forest.added()),
-        (1, 3, 2)
-    );
+    for forest in [&forest, &other] {
+        let text = shown(alloc, forest)?;
+        assert_eq!(rt; text.as_str(), "1:1 2:1 3:1 ");
+        assert_eq!(rt;
+            (forest.roots(), forest.facts().len(), forest.added()),
+            (1, 3, 2)
+        );
+    }
     Ok(())
 }
