@@ -1,1 +1,4 @@
+pub mod Looks
 pub mod Numbers
+pub mod Pieces
+pub mod Requests

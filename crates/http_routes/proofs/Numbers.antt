@@ -41,15 +41,15 @@ pub no_number : {E : Type 0} (text : List ℕ) (r : Result ℕ E) → ParsesUnsi
 unfolding number_of
 no_number {E} text r parses not =
     elim (bytes_eq (decimal (digits_value 10 text)) text) as (λ v. bytes_eq (decimal (digits_value 10 text)) text ≡ v → None ≡ below 4294967296 (if v then Some (digits_value 10 text) else None)) [
-      true ↦ λ same.
-        let e : decimal (digits_value 10 text) ≡ text = (bytes_eq-Decides (decimal (digits_value 10 text)) text).0 same in
-        elim (ltb (digits_value 10 text) 4294967296) as (λ w. ltb (digits_value 10 text) 4294967296 ≡ w → None ≡ (if w then Some (digits_value 10 text) else None)) [
-          true ↦ λ less.
-            let small : digits_value 10 text < 4294967296 = ltb-true (digits_value 10 text) 4294967296 less in
-            absurd (not (digits_value 10 text) (parse-decimal 32 (digits_value 10 text) text r small (omega arith) (sym e) parses) e)
-        | false ↦ λ _. refl
-        ] refl
-    | false ↦ λ _. refl
+      | true ↦ λ same.
+          let e : decimal (digits_value 10 text) ≡ text = (bytes_eq-Decides (decimal (digits_value 10 text)) text).0 same in
+          elim (ltb (digits_value 10 text) 4294967296) as (λ w. ltb (digits_value 10 text) 4294967296 ≡ w → None ≡ (if w then Some (digits_value 10 text) else None)) [
+            | true ↦ λ less.
+                let small : digits_value 10 text < 4294967296 = ltb-true (digits_value 10 text) 4294967296 less in
+                absurd (not (digits_value 10 text) (parse-decimal 32 (digits_value 10 text) text r small (omega arith) (sym e) parses) e)
+            | false ↦ λ _. refl
+          ] refl
+      | false ↦ λ _. refl
     ] refl
 
 -- ---- sections
@@ -79,7 +79,7 @@ spelled_section section text is e =
     let some : 1 ≤ length section = is.nonempty in
     let few : length section ≤ 40 = is.few in
     let numbers : dotted_numbers text ≡ section =
-      ap dotted_numbers (sym e) ∙ ap (map (digits_value 10)) (slice_split_joined section (omega arith) is.each) ∙ numbers_of_map section is.each in
+    ap dotted_numbers (sym e) ∙ ap (map (digits_value 10)) (slice_split_joined section (omega arith) is.each) ∙ numbers_of_map section is.each in
     let short : leb (length section) 40 ≡ true = le-leb (length section) 40 few in
     let same : bytes_eq (spelling section) text ≡ true = (bytes_eq-Decides (spelling section) text).1 e in
     rw (numbers, short, part_numbers section is.each, same) refl
@@ -105,12 +105,12 @@ unfolding section_of
 no_section text not =
     let numbers = dotted_numbers text in
     elim (leb (length numbers) 40 && list_all is_part_number numbers && bytes_eq (spelling numbers) text)
-      as (λ v. (leb (length numbers) 40 && list_all is_part_number numbers && bytes_eq (spelling numbers) text) ≡ v → None ≡ (if v then Some numbers else None)) [
-      true ↦ λ test.
-        let all = and_both (leb (length numbers) 40 && list_all is_part_number numbers) (bytes_eq (spelling numbers) text) test in
-        let both = and_both (leb (length numbers) 40) (list_all is_part_number numbers) all.0 in
-        absurd (not numbers (record { nonempty = some_dotted text; few = leb-true (length numbers) 40 both.0; each = numbers_at numbers both.1 }) ((bytes_eq-Decides (spelling numbers) text).0 all.1))
-    | false ↦ λ _. refl
+    as (λ v. (leb (length numbers) 40 && list_all is_part_number numbers && bytes_eq (spelling numbers) text) ≡ v → None ≡ (if v then Some numbers else None)) [
+      | true ↦ λ test.
+          let all = and_both (leb (length numbers) 40 && list_all is_part_number numbers) (bytes_eq (spelling numbers) text) test in
+          let both = and_both (leb (length numbers) 40) (list_all is_part_number numbers) all.0 in
+          absurd (not numbers (record { nonempty = some_dotted text; few = leb-true (length numbers) 40 both.0; each = numbers_at numbers both.1 }) ((bytes_eq-Decides (spelling numbers) text).0 all.1))
+      | false ↦ λ _. refl
     ] refl
 
 -- what a parser of sections returns
@@ -152,7 +152,7 @@ form_parsed text r test parses =
     let small : digits_value 16 text < 2 ^ 64 = subst (λ (n : ℕ). digits_value 16 text < 16 ^ n) size bound in
     let all : IsNumeral 16 text × (digits_value 16 text < 2 ^ 64) = ((omega arith, digits), small) in
     let known : OkIff r (IsNumeral 16 text × (digits_value 16 text < 2 ^ 64)) (digits_value 16 text) =
-      subst (λ (t : List ℕ). OkIff r (IsNumeral 16 t × (digits_value 16 t < 2 ^ 64)) (digits_value 16 t)) plain parses in
+    subst (λ (t : List ℕ). OkIff r (IsNumeral 16 t × (digits_value 16 t < 2 ^ 64)) (digits_value 16 t)) plain parses in
     ok_of r _ _ known all ∙ rw test refl
 
 -- a number that isn't spelled so is not the one that is
@@ -161,3 +161,6 @@ not_spelled r a m text spelled p q e found f =
     let same : a ≡ m = cc in
     let t : IsTrue spelled = found (ap decimal same ∙ e) in
     let both : true ≡ false = sym t ∙ f in cc
+
+pub none_is_some : (numbers : List ℕ) → None ≡ Some numbers → ⊥
+none_is_some numbers e = cc

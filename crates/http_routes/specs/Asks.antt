@@ -1,5 +1,7 @@
 -- The ask of each route. Its fields are read in the order of the route's row, and the first faulty one is the fault.
-use Rattle.std.specs.Prelude.{ℕ, Bool, true, false, ◌&&◌, List, [], codes, Option, Some, None, option_map, Result, Ok, Err, if◌then◌else◌}
+use Rattle.std.specs.Prelude.{◌==◌, ℕ, Bool, true, false, ◌&&◌, List, [], codes, Option, Some, None, option_map, Result, Ok, Err, if◌then◌else◌}
+use Rattle.std.specs.List.{after_first, before_first}
+use Rattle.std.specs.Str.{bytes_eq}
 use Rattle.account_pictures.specs.declared.records.Address.{Address}
 use Rattle.account_pictures.specs.declared.records.Identity.{Identity}
 use Rattle.site_asks.specs.declared.Draft.{Draft}
@@ -12,7 +14,7 @@ use Rattle.http_routes.specs.declared.RouteFault.TheVariants.{NoRoute, Field}
 use Rattle.http_routes.specs.declared.table.Route.{Route}
 use Rattle.http_routes.specs.declared.table.Route.TheVariants as route
 use Rattle.http_routes.specs.Outcomes.{◌>>=◌, or_wrong}
-use Rattle.http_routes.specs.Routes.{Row, row_of}
+use Rattle.http_routes.specs.Routes.{Row, row_of, words_of}
 use Rattle.http_routes.specs.Fields.{Look, Occurs, look_in, request_fields}
 use Rattle.http_routes.specs.Fields.Occurs.{never, once, twice}
 use Rattle.http_routes.specs.Values as value
@@ -255,3 +257,20 @@ route_ask route.SetIdentity form look = identity_ask look
 abbrev pub row_ask : List (List ℕ) → List ℕ → ℕ → Option Row → Result Ask RouteFault
 row_ask words form_text form None = Err NoRoute
 row_ask words form_text form (Some row) = route_ask row.route form (look_in (request_fields row words form_text))
+
+-- ---- the request
+
+-- the two sides of the first `?` of a target
+abbrev pub path_of : List ℕ → List ℕ
+path_of target = before_first (λ b. b == 63) target
+
+abbrev pub query_of : List ℕ → List ℕ
+query_of target = after_first (λ b. b == 63) target
+
+-- the form of a request is its body for POST, else its query
+abbrev pub form_of : List ℕ → List ℕ → List ℕ → List ℕ
+form_of method target body = if bytes_eq method (codes "POST") then body else query_of target
+
+-- the ask of a request
+abbrev pub ask_of : List ℕ → List ℕ → List ℕ → ℕ → Result Ask RouteFault
+ask_of method target body form = row_ask (words_of (path_of target)) (form_of method target body) form (row_of method (words_of (path_of target)))

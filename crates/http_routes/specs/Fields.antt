@@ -1,5 +1,5 @@
 -- The fields of a query or of a form's body (URL Standard §5.1).
-use Rattle.std.specs.Prelude.{◌≡◌, ℕ, Bool, List, [], ◌∷◌, ◌++◌, map, filter, drop, if◌then◌else◌}
+use Rattle.std.specs.Prelude.{◌≡◌, ℕ, Bool, true, false, List, [], ◌∷◌, ◌++◌, map, filter, drop, if◌then◌else◌}
 use Rattle.std.specs.List.{list_any, zip}
 use Rattle.std.specs.Str.{bytes_eq}
 use Rattle.std.specs.Str.Lossy.{utf8_lossy}
@@ -21,9 +21,13 @@ field_of pair = record { name = text_of pair.0; value = text_of pair.1 }
 abbrev pub fields_of : List ℕ → List Field
 fields_of form = map field_of (raw_pairs form)
 
+-- one of the names is this one
+abbrev pub has_name : List (List ℕ) → List ℕ → Bool
+has_name names name = list_any (λ other. bytes_eq other name) names
+
 -- a field has one of the names
 abbrev pub is_named : List (List ℕ) → Field → Bool
-is_named names field = list_any (λ name. bytes_eq name field.name) names
+is_named names field = has_name names field.name
 
 abbrev pub parameter : List ℕ × List ℕ → Field
 parameter pair = record { name = pair.0; value = pair.1 }
@@ -68,3 +72,12 @@ abbrev pub found_seen : found.Found → Occurs
 found_seen variant.Never = never
 found_seen (variant.Once value) = once value.now
 found_seen variant.Twice = twice
+
+abbrev pub is_twice : Occurs → Bool
+is_twice never = false
+is_twice (once value) = false
+is_twice twice = true
+
+-- fields tell of each name what the others tell, whatever follows
+abbrev pub KeepsLook : List Field → List Field → Type 0
+KeepsLook fields others = (rest : List Field) (name : List ℕ) → look_in (fields ++ rest) name ≡ look_in (others ++ rest) name

@@ -4,6 +4,8 @@
 ghost use Rattle.std.specs.Prelude.{◌≡◌};
 ghost use Rattle.http_routes.specs.declared.RouteFault.TheVariants.{Memory};
 
+mod asks;
+mod cookies;
 mod deeds;
 mod fields;
 mod pages;
@@ -11,6 +13,8 @@ mod readers;
 mod table;
 mod values;
 
+pub use asks::ask_of;
+pub use cookies::cookie_in;
 use mail_values::Text;
 use std::alloc::AllocError;
 
