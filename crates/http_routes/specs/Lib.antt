@@ -4,3 +4,4 @@ pub mod Fields
 pub mod Values
 pub mod Asks
 pub mod Cookies
+pub mod Servable
