@@ -1,0 +1,4 @@
+pub mod Callers
+pub mod Doors
+pub mod Series
+pub mod Told
