@@ -2,3 +2,4 @@ pub mod Looks
 pub mod Numbers
 pub mod Pieces
 pub mod Requests
+pub mod Servables

@@ -18,7 +18,7 @@ use Rattle.mail_values.specs.Section.{IsNumber, IsSection, spelling}
 use Rattle.mail_values.proofs.Spellings.{slice_split_joined}
 use Rattle.http_routes.specs.Values.{below, dotted_numbers, form_number, is_form_text, is_part_number, number_of, section_of, small_number}
 
-and_both : (a b : Bool) → (a && b) ≡ true → (a ≡ true) × (b ≡ true)
+pub and_both : (a b : Bool) → (a && b) ≡ true → (a ≡ true) × (b ≡ true)
 and_both true b e = (refl, e)
 and_both false b e = absurd cc
 

@@ -1,8 +1,9 @@
 //! The ask of a request.
-ghost use Rattle.std.specs.Prelude.{◌≡◌};
+ghost use Rattle.std.specs.Prelude.{◌≡◌, IfOk};
 ghost use Rattle.http_routes.specs.Asks as spec;
 ghost use Rattle.http_routes.specs.Fields.{look_in};
 ghost use Rattle.http_routes.specs.Outcomes.{ReadsAs};
+ghost use Rattle.http_routes.specs.Servable.{IsServable};
 
 use crate::RouteFault;
 use crate::deeds::{
@@ -35,10 +36,10 @@ fn query_of(target: &str) -> &str
 }
 
 /// Returns the form of a request: its body for POST, else its query.
-fn form_of<'r>(method: &str, target: &'r str, body: &'r [u8]) -> &'r [u8]
+fn form_of<'r>(method: &[u8], target: &'r str, body: &'r [u8]) -> &'r [u8]
     ensures { result.now ≡ spec.form_of method.now target.now body.now }
 {
-    if method == "POST" {
+    if method == b"POST".as_slice() {
         body
     } else {
         query_of(target).as_bytes()
@@ -47,7 +48,8 @@ fn form_of<'r>(method: &str, target: &'r str, body: &'r [u8]) -> &'r [u8]
 
 /// Reads the ask of a route from its fields.
 fn route_ask(alloc: Global, route: Route, form: u64, fields: &[Field]) -> Result<Ask, RouteFault>
-    ensures { ReadsAs result (spec.route_ask route form (look_in fields.now)) }
+    ensures equals { ReadsAs result (spec.route_ask route form (look_in fields.now)) }
+    ensures servable { IfOk result IsServable }
 {
     match route {
         Route::Folders => Ok(Ask::Folders),
@@ -77,12 +79,13 @@ fn route_ask(alloc: Global, route: Route, form: u64, fields: &[Field]) -> Result
 /// several faulty fields the first is the fault. Fields that the route doesn't have are passed over.
 pub fn ask_of(
     alloc: Global,
-    method: &str,
+    method: &[u8],
     target: &str,
     body: &[u8],
     form: u64,
 ) -> Result<Ask, RouteFault>
-    ensures { ReadsAs result (spec.ask_of method.now target.now body.now form) }
+    ensures equals { ReadsAs result (spec.ask_of method.now target.now body.now form) }
+    ensures servable { IfOk result IsServable }
 {
     let words = words_of(alloc, path_of(target))?;
     let Some(row) = row_of(method, &words) else {

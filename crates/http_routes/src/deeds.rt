@@ -1,8 +1,9 @@
 //! The asks of the routes of POST.
-ghost use Rattle.std.specs.Prelude.{◌≡◌};
+ghost use Rattle.std.specs.Prelude.{◌≡◌, IfOk};
 ghost use Rattle.http_routes.specs.Asks as spec;
 ghost use Rattle.http_routes.specs.Fields.{look_in};
 ghost use Rattle.http_routes.specs.Outcomes.{ReadsAs};
+ghost use Rattle.http_routes.specs.Servable.{IsServable};
 
 use crate::RouteFault;
 use crate::fields::Field;
@@ -14,7 +15,8 @@ use std::alloc::Global;
 
 #[tactic(auto, unfolding(crate::specs::Asks::login_ask))]
 pub fn login(alloc: Global, fields: &[Field]) -> Result<Ask, RouteFault>
-    ensures { ReadsAs result (spec.login_ask (look_in fields.now)) }
+    ensures equals { ReadsAs result (spec.login_ask (look_in fields.now)) }
+    ensures servable { IfOk result IsServable }
 {
     let user = user(alloc, fields)?;
     let password = password(alloc, fields)?;
@@ -23,7 +25,8 @@ pub fn login(alloc: Global, fields: &[Field]) -> Result<Ask, RouteFault>
 
 #[tactic(auto, unfolding(crate::specs::Asks::logout_ask))]
 pub fn logout(alloc: Global, fields: &[Field]) -> Result<Ask, RouteFault>
-    ensures { ReadsAs result (spec.logout_ask (look_in fields.now)) }
+    ensures equals { ReadsAs result (spec.logout_ask (look_in fields.now)) }
+    ensures servable { IfOk result IsServable }
 {
     let key = text(alloc, fields, "key")?;
     Ok(Ask::Logout { key })
@@ -31,7 +34,8 @@ pub fn logout(alloc: Global, fields: &[Field]) -> Result<Ask, RouteFault>
 
 #[tactic(auto, unfolding(crate::specs::Asks::flag_ask))]
 pub fn set_flag(alloc: Global, fields: &[Field]) -> Result<Ask, RouteFault>
-    ensures { ReadsAs result (spec.flag_ask (look_in fields.now)) }
+    ensures equals { ReadsAs result (spec.flag_ask (look_in fields.now)) }
+    ensures servable { IfOk result IsServable }
 {
     let key = text(alloc, fields, "key")?;
     let at = address(alloc, fields)?;
@@ -42,7 +46,8 @@ pub fn set_flag(alloc: Global, fields: &[Field]) -> Result<Ask, RouteFault>
 
 #[tactic(auto, unfolding(crate::specs::Asks::move_ask))]
 pub fn move_to(alloc: Global, fields: &[Field]) -> Result<Ask, RouteFault>
-    ensures { ReadsAs result (spec.move_ask (look_in fields.now)) }
+    ensures equals { ReadsAs result (spec.move_ask (look_in fields.now)) }
+    ensures servable { IfOk result IsServable }
 {
     let key = text(alloc, fields, "key")?;
     let at = address(alloc, fields)?;
@@ -52,7 +57,8 @@ pub fn move_to(alloc: Global, fields: &[Field]) -> Result<Ask, RouteFault>
 
 #[tactic(auto, unfolding(crate::specs::Asks::delete_ask))]
 pub fn delete(alloc: Global, fields: &[Field]) -> Result<Ask, RouteFault>
-    ensures { ReadsAs result (spec.delete_ask (look_in fields.now)) }
+    ensures equals { ReadsAs result (spec.delete_ask (look_in fields.now)) }
+    ensures servable { IfOk result IsServable }
 {
     let key = text(alloc, fields, "key")?;
     let at = address(alloc, fields)?;
@@ -104,7 +110,8 @@ fn draft(alloc: Global, fields: &[Field]) -> Result<Draft, RouteFault>
 
 #[tactic(auto, unfolding(crate::specs::Asks::save_ask))]
 pub fn save_draft(alloc: Global, fields: &[Field]) -> Result<Ask, RouteFault>
-    ensures { ReadsAs result (spec.save_ask (look_in fields.now)) }
+    ensures equals { ReadsAs result (spec.save_ask (look_in fields.now)) }
+    ensures servable { IfOk result IsServable }
 {
     let key = text(alloc, fields, "key")?;
     let fields = draft(alloc, fields)?;
@@ -113,7 +120,8 @@ pub fn save_draft(alloc: Global, fields: &[Field]) -> Result<Ask, RouteFault>
 
 #[tactic(auto, unfolding(crate::specs::Asks::send_ask))]
 pub fn send_draft(alloc: Global, fields: &[Field]) -> Result<Ask, RouteFault>
-    ensures { ReadsAs result (spec.send_ask (look_in fields.now)) }
+    ensures equals { ReadsAs result (spec.send_ask (look_in fields.now)) }
+    ensures servable { IfOk result IsServable }
 {
     let key = text(alloc, fields, "key")?;
     let fields = draft(alloc, fields)?;
@@ -122,7 +130,8 @@ pub fn send_draft(alloc: Global, fields: &[Field]) -> Result<Ask, RouteFault>
 
 #[tactic(auto, unfolding(crate::specs::Asks::identity_ask))]
 pub fn set_identity(alloc: Global, fields: &[Field]) -> Result<Ask, RouteFault>
-    ensures { ReadsAs result (spec.identity_ask (look_in fields.now)) }
+    ensures equals { ReadsAs result (spec.identity_ask (look_in fields.now)) }
+    ensures servable { IfOk result IsServable }
 {
     let key = text(alloc, fields, "key")?;
     let number = kept(alloc, fields)?;

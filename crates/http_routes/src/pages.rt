@@ -1,8 +1,9 @@
 //! The asks of the routes of GET.
-ghost use Rattle.std.specs.Prelude.{◌≡◌};
+ghost use Rattle.std.specs.Prelude.{◌≡◌, IfOk};
 ghost use Rattle.http_routes.specs.Asks as spec;
 ghost use Rattle.http_routes.specs.Fields.{look_in};
 ghost use Rattle.http_routes.specs.Outcomes.{ReadsAs};
+ghost use Rattle.http_routes.specs.Servable.{IsServable};
 
 use crate::RouteFault;
 use crate::fields::Field;
@@ -43,7 +44,8 @@ fn path_address(alloc: Global, fields: &[Field]) -> Result<Address, RouteFault>
 
 #[tactic(auto, unfolding(crate::specs::Asks::list_ask))]
 pub fn list(alloc: Global, fields: &[Field]) -> Result<Ask, RouteFault>
-    ensures { ReadsAs result (spec.list_ask (look_in fields.now)) }
+    ensures equals { ReadsAs result (spec.list_ask (look_in fields.now)) }
+    ensures servable { IfOk result IsServable }
 {
     let folder = text(alloc, fields, "f")?;
     let page = page(alloc, fields)?;
@@ -52,7 +54,8 @@ pub fn list(alloc: Global, fields: &[Field]) -> Result<Ask, RouteFault>
 
 #[tactic(auto, unfolding(crate::specs::Asks::threads_ask))]
 pub fn threads(alloc: Global, fields: &[Field]) -> Result<Ask, RouteFault>
-    ensures { ReadsAs result (spec.threads_ask (look_in fields.now)) }
+    ensures equals { ReadsAs result (spec.threads_ask (look_in fields.now)) }
+    ensures servable { IfOk result IsServable }
 {
     let folder = text(alloc, fields, "f")?;
     let page = page(alloc, fields)?;
@@ -61,7 +64,8 @@ pub fn threads(alloc: Global, fields: &[Field]) -> Result<Ask, RouteFault>
 
 #[tactic(auto, unfolding(crate::specs::Asks::search_ask))]
 pub fn search(alloc: Global, fields: &[Field]) -> Result<Ask, RouteFault>
-    ensures { ReadsAs result (spec.search_ask (look_in fields.now)) }
+    ensures equals { ReadsAs result (spec.search_ask (look_in fields.now)) }
+    ensures servable { IfOk result IsServable }
 {
     let folder = text(alloc, fields, "f")?;
     let page = page(alloc, fields)?;
@@ -75,7 +79,8 @@ pub fn search(alloc: Global, fields: &[Field]) -> Result<Ask, RouteFault>
 
 #[tactic(auto, unfolding(crate::specs::Asks::show_ask))]
 pub fn show(alloc: Global, fields: &[Field]) -> Result<Ask, RouteFault>
-    ensures { ReadsAs result (spec.show_ask (look_in fields.now)) }
+    ensures equals { ReadsAs result (spec.show_ask (look_in fields.now)) }
+    ensures servable { IfOk result IsServable }
 {
     let at = path_address(alloc, fields)?;
     let images = images(alloc, fields)?;
@@ -85,7 +90,8 @@ pub fn show(alloc: Global, fields: &[Field]) -> Result<Ask, RouteFault>
 
 #[tactic(auto, unfolding(crate::specs::Asks::part_ask))]
 pub fn one_part(alloc: Global, fields: &[Field]) -> Result<Ask, RouteFault>
-    ensures { ReadsAs result (spec.part_ask (look_in fields.now)) }
+    ensures equals { ReadsAs result (spec.part_ask (look_in fields.now)) }
+    ensures servable { IfOk result IsServable }
 {
     let validity = number(alloc, fields, "v")?;
     let uid = number(alloc, fields, "u")?;
@@ -113,7 +119,8 @@ fn is_new(fields: &[Field]) -> bool
 
 #[tactic(auto, unfolding(crate::specs::Asks::compose_ask))]
 pub fn compose(alloc: Global, form: u64, fields: &[Field]) -> Result<Ask, RouteFault>
-    ensures { ReadsAs result (spec.compose_ask form (look_in fields.now)) }
+    ensures equals { ReadsAs result (spec.compose_ask form (look_in fields.now)) }
+    ensures servable { IfOk result IsServable }
 {
     if is_new(fields) {
         return Ok(Ask::Compose { form, from: None });

@@ -201,12 +201,12 @@ fn are_nonempty(words: &[&str]) -> bool
 }
 
 /// Whether a request has the method and the path of a row.
-fn fits(method: &str, words: &[&str], row: &Row) -> bool
+fn fits(method: &[u8], words: &[&str], row: &Row) -> bool
     ensures { result ≡ fits method.now (texts_seen words.now) (row_seen row.now) }
 {
     match words {
         [first, word, parameters @ ..] if first.is_empty() => {
-            row.method == method
+            row.method.as_bytes() == method
                 && row.word == *word
                 && parameters.len() == row.parameters.len()
                 && are_nonempty(parameters)
@@ -216,7 +216,7 @@ fn fits(method: &str, words: &[&str], row: &Row) -> bool
 }
 
 /// Returns the first of the rows that a request has.
-fn row_among(rows: &'static [Row], method: &str, words: &[&str]) -> Option<&'static Row>
+fn row_among(rows: &'static [Row], method: &[u8], words: &[&str]) -> Option<&'static Row>
     ensures { option_map row_seen (option_copied result) ≡ find (fits method.now (texts_seen words.now)) (map row_seen rows.now) }
 {
     let mut rest = rows;
@@ -231,7 +231,7 @@ fn row_among(rows: &'static [Row], method: &str, words: &[&str]) -> Option<&'sta
 
 /// Returns the row of a request.
 #[tactic(auto, unfolding(crate::specs::Routes::routes))]
-pub fn row_of(method: &str, words: &[&str]) -> Option<&'static Row>
+pub fn row_of(method: &[u8], words: &[&str]) -> Option<&'static Row>
     ensures { option_map row_seen (option_copied result) ≡ row_of method.now (texts_seen words.now) }
 {
     row_among(&ROUTES, method, words)
