@@ -1,2 +1,3 @@
+pub mod Framings
+pub mod Rooms
 pub mod Scans
-pub mod Reads

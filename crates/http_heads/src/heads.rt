@@ -1,8 +1,9 @@
 //! Heads of requests.
-ghost use Rattle.std.specs.Prelude.{◌≡◌, ◌≤◌, IfOk, All, List, ℕ, drop, length, map, take};
+ghost use Rattle.std.specs.Prelude.{◌≡◌, ◌≤◌, All, IfOk, length, map};
 ghost use Rattle.std.specs.Str.{IsUtf8};
+ghost use Rattle.httparse.specs.Grammar.{RequestHead};
 ghost use Rattle.httparse.specs.Spans.{IsHeaderWithin, IsRequestOf, IsRequestWithin, header_bytes};
-ghost use Rattle.http_heads.specs.Heads.{HearsAs, IsPartsOf, fields_seen};
+ghost use Rattle.http_heads.specs.Heads.{HearsAs, IsHeadOf, fields_seen};
 ghost use Rattle.http_heads.specs.Places.{place_of};
 
 use crate::Place;
@@ -41,22 +42,72 @@ pub struct Head<'b> {
     pub len: usize,
 }
 
-/// Reads the head that bytes begin with. `place` is where the bytes end.
-#[tactic(auto, using(crate::proofs::Heads::known))]
-pub fn read_head(bytes: &[u8], spans: &mut [HeaderSpan]) -> Heard
+/// Reads the head that bytes begin with. `place` is where they end, and `spans` gets the places of the fields.
+pub fn read_head(bytes: &[u8], place: Place, spans: &mut [HeaderSpan]) -> Heard
     requires short { length bytes.now ≤ 16384 }
     requires room { length spans.old ≡ 5461 }
+    requires scanned { place ≡ place_of bytes.now }
     ensures { HearsAs bytes.now spans.new result }
 {
     match parse_request(bytes, spans) {
         Ok(Status::Complete(head)) => Heard::Finished(head),
         Ok(Status::Partial) => Heard::More,
         Err(_) => {
-            if ends_in_target(bytes) {
+            if place.is_in_target() {
                 Heard::More
             } else {
                 Heard::NotHttp
             }
         }
     }
+}
+
+/// Returns the text of a target.
+fn text_of(target: &[u8]) -> &str
+    requires { IsUtf8 target.now }
+    ensures { result.now ≡ target.now }
+{
+    match std::str::from_utf8(target) {
+        Ok(text) => text,
+        Err(_) => "",
+    }
+}
+
+/// Returns the fields that spans cover.
+fn fields_of<'b>(
+    alloc: Global,
+    bytes: &'b [u8],
+    spans: &[HeaderSpan],
+) -> Result<Vec<HeadField<'b>>, AllocError>
+    requires { All (IsHeaderWithin (length bytes.now)) spans.now }
+    ensures { IfOk result (λ fields. fields_seen fields.items ≡ map (header_bytes bytes.now) spans.now) }
+{
+    let mut fields = Vec::new(alloc);
+    for span in spans {
+        fields.push(HeadField {
+            name: span.name.of(bytes),
+            value: span.value.of(bytes),
+        })?;
+    }
+    Ok(fields)
+}
+
+/// Returns the parts of a head that was read.
+pub fn parts_of<'b>(
+    alloc: Global,
+    bytes: &'b [u8],
+    head: &RequestSpans,
+    spans: &[HeaderSpan],
+) -> Result<Head<'b>, AllocError>
+    requires whole { IsRequestOf bytes.now spans.now head.now }
+    requires within { IsRequestWithin bytes.now spans.now head.now }
+    ensures { IfOk result (λ parts. (h : RequestHead) × IsHeadOf bytes.now h parts) }
+{
+    let fields = fields_of(alloc, bytes, &spans[..head.headers])?;
+    Ok(Head {
+        method: head.method.of(bytes),
+        target: text_of(head.path.of(bytes)),
+        fields,
+        len: head.len,
+    })
 }

@@ -5,6 +5,6 @@ mod framing;
 mod heads;
 mod places;
 
-pub use framing::{HeadFault, body_len};
+pub use framing::{Found, HeadFault, body_len};
 pub use heads::{Head, HeadField, Heard, SPANS, parts_of, read_head};
 pub use places::Place;

@@ -162,4 +162,11 @@ impl Place {
         }
         place
     }
+
+    /// Whether the place is in a target.
+    pub fn is_in_target(self) -> bool
+        ensures { result ≡ spec.is_in_target self }
+    {
+        matches!(self, Place::TargetStart | Place::Target)
+    }
 }
