@@ -7,7 +7,10 @@ use Rattle.httparse.specs.Grammar.{LineEnd, crlf, lf, print_end, Field, IsField,
 use Rattle.httparse.specs.Spans.{RequestExceeds}
 use Rattle.httparse.specs.declared.Error.{Error}
 use Rattle.httparse.specs.declared.Error.TheVariants.{TooManyHeaders}
-use Rattle.http_heads.specs.Heads.{IsNotHttp}
+use Rattle.httparse.specs.declared.spans.HeaderSpan.{HeaderSpan}
+use Rattle.http_heads.specs.Heads.{HearsAs, IsNotHttp, ScansAs}
+use Rattle.http_heads.specs.declared.heads.Heard.{Heard}
+use Rattle.http_heads.specs.declared.heads.Heard.TheVariants.{Finished, More, NotHttp}
 
 -- while a head may come, the bytes are HTTP
 pub still_open : (bytes : List ℕ) → MayBecomeRequest bytes → ¬ (IsNotHttp bytes)
@@ -48,3 +51,9 @@ pub never : (bytes : List ℕ) (room : ℕ) (e : Error) → room ≡ 5461 → le
     → (e ≢ TooManyHeaders → NeverHasRequest bytes) → (e ≡ TooManyHeaders → RequestExceeds room bytes) → NeverHasRequest bytes
 never bytes room e is short invalid too_many =
     invalid (λ same. let long = exceeds_long room bytes (too_many same) in absurd (omega (arith, long, is, short)))
+
+-- what a parser returns, a scan may return
+pub scans_as : (bytes : List ℕ) (spans : List HeaderSpan) (heard : Heard) → HearsAs bytes spans heard → ScansAs bytes spans heard
+scans_as bytes spans (Finished head) hears = hears
+scans_as bytes spans More hears = hears.0
+scans_as bytes spans NotHttp hears = hears

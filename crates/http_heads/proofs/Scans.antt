@@ -6,6 +6,7 @@ use Rattle.std.proofs.lemmas.Bool.{eqb-true}
 use Rattle.std.proofs.lemmas.List.Elements.{All-head, All-tail, All-nil}
 use Rattle.std.proofs.lemmas.List.Sums.{fold-append}
 use Rattle.httparse.specs.Grammar.{is_token_byte, is_uri_byte, is_value_byte, AllPass, IsToken, LineEnd, crlf, lf, print_end, print_blank, Field, IsField, print_field, print_section, print_version, print_request, EndsInTarget, HasNoRequest, IsRequestHead, NeverHasRequest, ReadsRequest, RequestHead}
+use Rattle.http_heads.specs.Heads.{IsNotHttp}
 use Rattle.http_heads.specs.declared.places.Place.{Place}
 use Rattle.http_heads.specs.declared.places.Place.TheVariants.{Start, StartReturn, Method, TargetStart, Target, Version, VersionEnd, LineReturn, FieldStart, LastReturn, Name, Value, Whole, Dead}
 use Rattle.http_heads.specs.Places.{at_line_end, expect, in_run, is_in_target, place_of, step, version_text}
@@ -313,3 +314,14 @@ rest_of (b ∷ bytes) Target t =
 pub seen_target : (bytes : List ℕ) → is_in_target (place_of bytes) ≡ true → EndsInTarget bytes
 unfolding RestOf
 seen_target bytes here = rest_of bytes Start here
+
+-- a dead place is in no target
+pub dead_is_not_http : (bytes : List ℕ) → place_of bytes ≡ Dead → IsNotHttp bytes
+dead_is_not_http bytes dead = (never_after_dead bytes dead, λ ends. let here = in_target bytes ends in let not : is_in_target (place_of bytes) ≡ false = rw dead refl in absurd cc)
+
+-- elsewhere but at the end of a head there is none
+pub not_whole : (bytes : List ℕ) (place : Place) → place ≡ place_of bytes → (place ≡ Whole → ⊥) → HasNoRequest bytes
+not_whole bytes place is not = no_head_before bytes (λ whole. not (is ∙ whole))
+
+pub nothing_heard : HasNoRequest []
+nothing_heard = no_head_before [] (λ whole. absurd cc)

@@ -22,6 +22,12 @@ HearsAs bytes spans (Finished head) = IsRequestOf bytes spans head × IsRequestW
 HearsAs bytes spans More = HasNoRequest bytes × ¬ (IsNotHttp bytes)
 HearsAs bytes spans NotHttp = IsNotHttp bytes
 
+-- what a scan of a head returns: it doesn't test whether the bytes so far may become a head
+abbrev pub ScansAs : List ℕ → List HeaderSpan → Heard → Type 0
+ScansAs bytes spans (Finished head) = IsRequestOf bytes spans head × IsRequestWithin bytes spans head
+ScansAs bytes spans More = HasNoRequest bytes
+ScansAs bytes spans NotHttp = IsNotHttp bytes
+
 -- the name and the value of a field
 abbrev pub field_seen : HeadField → List ℕ × List ℕ
 field_seen field = (field.name.now, field.value.now)

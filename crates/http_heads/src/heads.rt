@@ -3,7 +3,7 @@ ghost use Rattle.std.specs.Prelude.{◌≡◌, ◌≤◌, All, IfOk, length, map
 ghost use Rattle.std.specs.Str.{IsUtf8};
 ghost use Rattle.httparse.specs.Grammar.{RequestHead};
 ghost use Rattle.httparse.specs.Spans.{IsHeaderWithin, IsRequestOf, IsRequestWithin, header_bytes};
-ghost use Rattle.http_heads.specs.Heads.{HearsAs, IsHeadOf, fields_seen};
+ghost use Rattle.http_heads.specs.Heads.{HearsAs, IsHeadOf, ScansAs, fields_seen};
 ghost use Rattle.http_heads.specs.Places.{place_of};
 
 use crate::Place;
@@ -59,6 +59,20 @@ pub fn read_head(bytes: &[u8], place: Place, spans: &mut [HeaderSpan]) -> Heard
                 Heard::NotHttp
             }
         }
+    }
+}
+
+/// Returns what bytes are that end at `place`. They are parsed only if that is the end of a head.
+pub fn scanned_head(bytes: &[u8], place: Place, spans: &mut [HeaderSpan]) -> Heard
+    requires short { length bytes.now ≤ 16384 }
+    requires room { length spans.old ≡ 5461 }
+    requires scanned { place ≡ place_of bytes.now }
+    ensures { ScansAs bytes.now spans.new result }
+{
+    match place {
+        Place::Whole => read_head(bytes, place, spans),
+        Place::Dead => Heard::NotHttp,
+        _ => Heard::More,
     }
 }
 
