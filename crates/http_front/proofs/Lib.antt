@@ -1,2 +1,4 @@
+pub mod CookieFields
+pub mod Hearing
 pub mod Parts
 mod ReplyExamples

@@ -5,33 +5,33 @@ use Rattle.httparse.specs.Grammar.{HasNoRequest, ReadsRequest, RequestHead, prin
 use Rattle.http_heads.specs.Framing.{body_len, values_of}
 use Rattle.http_heads.specs.Heads.{IsNotHttp, fields_of, head_limit}
 use Rattle.http_heads.specs.declared.framing.HeadFault.{HeadFault}
-use Rattle.http_heads.specs.declared.framing.HeadFault.TheVariants as head
 use Rattle.http_routes.specs.Asks.{ask_of}
 use Rattle.http_routes.specs.Cookies.{cookie_of}
 use Rattle.http_routes.specs.declared.RouteFault.{RouteFault}
-use Rattle.http_routes.specs.declared.RouteFault.TheVariants as route
+use Rattle.http_front.specs.Faults.{head_fault, route_fault}
 use Rattle.site_asks.specs.declared.asks.Ask.{Ask}
-use Rattle.http_front.specs.declared.requests.AskFault.{AskFault}
-use Rattle.http_front.specs.declared.requests.AskFault.TheVariants as fault
-
--- the bytes that a head may have
-abbrev pub front : List ℕ → List ℕ
-front bytes = take head_limit bytes
-
-abbrev pub head_fault : HeadFault → AskFault
-head_fault head.TooLarge = fault.Head
-head_fault head.Coding = fault.Coding
-head_fault head.Length = fault.Field (codes "Content-Length")
-head_fault (head.Body bytes) = fault.Body bytes
-
-abbrev pub route_fault : RouteFault → AskFault
-route_fault route.NoRoute = fault.NoRoute
-route_fault (route.Field name) = fault.Field name
-route_fault route.Memory = fault.Memory
+use Rattle.http_front.specs.declared.faults.AskFault.{AskFault}
+use Rattle.http_front.specs.declared.faults.AskFault.TheVariants as fault
 
 -- an ask, and the cookie that came with it
 abbrev pub Asked : Type 0
 Asked = Ask × Option (List ℕ)
+
+-- a function's result is the definition's, unless memory ran out
+abbrev pub AsksAs : Result Asked AskFault → Result Asked AskFault → Type 0
+AsksAs (Ok asked) answer = answer ≡ Ok asked
+AsksAs (Err fault.Cut) answer = ⊥
+AsksAs (Err fault.NotHttp) answer = ⊥
+AsksAs (Err fault.Head) answer = ⊥
+AsksAs (Err fault.Coding) answer = ⊥
+AsksAs (Err (fault.Field name)) answer = answer ≡ Err (fault.Field name)
+AsksAs (Err (fault.Body len)) answer = ⊥
+AsksAs (Err fault.NoRoute) answer = answer ≡ Err fault.NoRoute
+AsksAs (Err fault.Memory) answer = ⊤
+
+-- the bytes that a head may have
+abbrev pub front : List ℕ → List ℕ
+front bytes = take head_limit bytes
 
 abbrev pub with_cookie : Option (List ℕ) → Result Ask RouteFault → Result Asked AskFault
 with_cookie cookie (Ok ask) = Ok (ask, cookie)
