@@ -36,3 +36,9 @@ heard_all (Some xs) (Some ys) bytes hears = hears.heard ∙ ap (λ (l : List ℕ
 
 pub then_hears : (a b c : Option (List ℕ)) (bytes more : List ℕ) → Hears a b [] bytes → Appends b c more → Appends a c (bytes ++ more)
 then_hears a b c bytes more first second = appends_trans a b c bytes more (heard_all a b bytes first) second
+
+pub keeps_trans : (a b c : Option (List ℕ)) → Keeps a b → Keeps b c → Keeps a c
+keeps_trans None b c x y = tt
+keeps_trans (Some xs) None c x y = absurd x
+keeps_trans (Some xs) (Some ys) None x y = absurd y
+keeps_trans (Some xs) (Some ys) (Some zs) x y = y ∙ x
