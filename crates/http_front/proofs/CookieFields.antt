@@ -20,8 +20,8 @@ pub first_all : (fields : List (List ℕ × List ℕ)) → first_cookies fields 
 first_all [] = refl
 first_all (field ∷ fields) =
     elim (str_eq_ignore_ascii_case field.0 (codes "Cookie"))
-      as (λ v. or_else (if v then first_cookie (pieces_of field.1) else None) (first_cookies fields)
-        ≡ first_cookie (flat_map pieces_of (map (λ (f : List ℕ × List ℕ). f.1) (if v then field ∷ filter (λ (f : List ℕ × List ℕ). str_eq_ignore_ascii_case f.0 (codes "Cookie")) fields else filter (λ (f : List ℕ × List ℕ). str_eq_ignore_ascii_case f.0 (codes "Cookie")) fields)))) [
-        true ↦ ap (or_else (first_cookie (pieces_of field.1))) (first_all fields) ∙ sym (first_append (pieces_of field.1) (flat_map pieces_of (values_of (codes "Cookie") fields)))
+    as (λ v. or_else (if v then first_cookie (pieces_of field.1) else None) (first_cookies fields)
+    ≡ first_cookie (flat_map pieces_of (map (λ (f : List ℕ × List ℕ). f.1) (if v then field ∷ filter (λ (f : List ℕ × List ℕ). str_eq_ignore_ascii_case f.0 (codes "Cookie")) fields else filter (λ (f : List ℕ × List ℕ). str_eq_ignore_ascii_case f.0 (codes "Cookie")) fields)))) [
+      | true ↦ ap (or_else (first_cookie (pieces_of field.1))) (first_all fields) ∙ sym (first_append (pieces_of field.1) (flat_map pieces_of (values_of (codes "Cookie") fields)))
       | false ↦ first_all fields
-      ]
+    ]

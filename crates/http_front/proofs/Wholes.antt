@@ -63,7 +63,7 @@ has_answer bytes more h parts form result short is answers = record {
   rest = drop parts.len bytes ++ take (16384 - length bytes) more;
   reads = front_reads bytes more h (drop parts.len bytes) short is.reads;
   answers = subst (λ (fields : List (List ℕ × List ℕ)). AnswersHead (body_len fields) h (bytes ++ more) form result) is.fields
-    (head_answer (body_len (fields_seen parts.fields.items)) bytes (bytes ++ more) h parts form result is answers);
+      (head_answer (body_len (fields_seen parts.fields.items)) bytes (bytes ++ more) h parts form result is answers);
 }
 
 lacks_body : (bytes more : List ℕ) (h : RequestHead) (parts : Head) → length bytes ≤ 16384 → IsHeadOf bytes h parts → LacksRest parts (bytes ++ more) → IsUnfinished (bytes ++ more)

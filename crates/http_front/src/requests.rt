@@ -120,7 +120,5 @@ fn cookie_of(alloc: Global, fields: &[HeadField<'_>]) -> Result<Option<Text>, Al
     let Some(value) = first_cookie(fields) else {
         return Ok(None);
     };
-    Ok(Some(Text::from_string(String::from_utf8_lossy(
-        alloc, value,
-    )?)))
+    Ok(Some(Text::from_string(String::from_utf8_lossy(alloc, value)?)))
 }

@@ -13,7 +13,7 @@ returns-in_err-head-clause-answers g c =
 pub returns-clause-answers : goal.returns-clause-answers
 returns-clause-answers g c =
     answered _ _ _ c.receive_head.new.bytes.items c.in_ok-parts.ensures.0 c.in_ok-parts.parts c.args.form c.answer.result c.receive_head.ensures.hears c.in_ok-head.ensures.heard.0
-        (rw c.deref.ensures.value at c.in_ok-parts.ensures.1) (rw c.deref-3.ensures.value at c.answer.ensures.answers)
+    (rw c.deref.ensures.value at c.in_ok-parts.ensures.1) (rw c.deref-3.ensures.value at c.answer.ensures.answers)
 
 pub returns-clause-keeps_sent : goal.returns-clause-keeps_sent
 returns-clause-keeps_sent g c = keeps_trans _ _ _ c.receive_head.ensures.keeps_sent c.answer.ensures.keeps_sent
