@@ -5,7 +5,7 @@ use Rattle.std.specs.List.{flat_map}
 use Rattle.std.specs.Str.{str_eq_ignore_ascii_case}
 use Rattle.http_heads.specs.Framing.{values_of}
 use Rattle.http_routes.specs.Cookies.{cookie_value, first_cookie, or_else, pieces_of}
-use Rattle.http_front.specs.Answering.{field_cookie, first_cookies}
+use Rattle.http_front.specs.Answering.{first_cookies}
 
 or_else_assoc : (a b c : Option (List ℕ)) → or_else a (or_else b c) ≡ or_else (or_else a b) c
 or_else_assoc None b c = refl

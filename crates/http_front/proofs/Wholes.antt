@@ -6,7 +6,7 @@ use Rattle.std.proofs.lemmas.List.{take_all}
 use Rattle.httparse.specs.Grammar.{HasNoRequest, ReadsRequest, RequestHead, print_request}
 use Rattle.httparse.specs.declared.spans.HeaderSpan.{HeaderSpan}
 use Rattle.http_heads.specs.Framing.{body_len}
-use Rattle.http_heads.specs.Heads.{IsHeadOf, IsNotHttp, fields_of, fields_seen, head_limit}
+use Rattle.http_heads.specs.Heads.{IsHeadOf, IsNotHttp, fields_seen}
 use Rattle.http_heads.specs.declared.framing.HeadFault.{HeadFault}
 use Rattle.http_heads.specs.declared.heads.Head.{Head}
 use Rattle.http_front.specs.Answering.{AnswersBody, AnswersParts, AnswersRest, LacksRest, parts_answer}

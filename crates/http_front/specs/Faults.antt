@@ -1,5 +1,5 @@
 -- The faults of heads and of routes as faults of asks.
-use Rattle.std.specs.Prelude.{◌≡◌, ℕ, List, codes, ⊤}
+use Rattle.std.specs.Prelude.{◌≡◌, codes, ⊤}
 use Rattle.http_heads.specs.declared.framing.HeadFault.{HeadFault}
 use Rattle.http_heads.specs.declared.framing.HeadFault.TheVariants as head
 use Rattle.http_routes.specs.declared.RouteFault.{RouteFault}

@@ -14,7 +14,6 @@ use Rattle.std.proofs.lemmas.Str.Parse.{IsNumeralModel, digits_value_short, nume
 use Rattle.http_heads.specs.Framing.{Occurs, is_length, length_of, occurs, occurs_again, occurs_in, occurs_with, values_of}
 use Rattle.http_heads.specs.Heads.{field_seen, fields_seen}
 use Rattle.http_heads.specs.declared.heads.HeadField.{HeadField}
-use Rattle.http_heads.specs.Framing.Occurs.{never, once, twice}
 
 occurs_push : (values : List (List ℕ)) (value : List ℕ) → occurs (values ++ value ∷ []) ≡ occurs_again value (occurs values)
 occurs_push [] value = refl
@@ -32,20 +31,20 @@ occurs_more name fields field =
     let test = λ (f : List ℕ × List ℕ). str_eq_ignore_ascii_case f.0 name in
     let value = λ (f : List ℕ × List ℕ). f.1 in
     let split : values_of name (fields ++ field ∷ []) ≡ values_of name fields ++ values_of name (field ∷ []) =
-      ap (map value) (filter-append test fields (field ∷ [])) ∙ map-append value (filter test fields) (filter test (field ∷ [])) in
+    ap (map value) (filter-append test fields (field ∷ [])) ∙ map-append value (filter test fields) (filter test (field ∷ [])) in
     ap occurs split
     ∙ elim (str_eq_ignore_ascii_case field.0 name)
-      as (λ v. occurs (values_of name fields ++ map value (if v then field ∷ [] else [])) ≡ (if v then occurs_again field.1 (occurs_in name fields) else occurs_in name fields)) [
-        true ↦ occurs_push (values_of name fields) field.1
+    as (λ v. occurs (values_of name fields ++ map value (if v then field ∷ [] else [])) ≡ (if v then occurs_again field.1 (occurs_in name fields) else occurs_in name fields)) [
+      | true ↦ occurs_push (values_of name fields) field.1
       | false ↦ append_none (values_of name fields)
-      ]
+    ]
 
 -- how often a name occurs in the fields up to a place, and in one more
 pub find_more : (name : List ℕ) (fields : List HeadField) (at : ℕ) (d : HeadField) (found : Occurs) → at < length fields → found ≡ occurs_in name (fields_seen (take at fields))
     → occurs_with found name (field_seen (get_or fields at d)) ≡ occurs_in name (fields_seen (take (at + 1) fields))
 find_more name fields at d found within is =
     let more : fields_seen (take (at + 1) fields) ≡ fields_seen (take at fields) ++ field_seen (get_or fields at d) ∷ [] =
-      ap fields_seen (take_more fields at d within) ∙ map-append field_seen (take at fields) (get_or fields at d ∷ []) in
+    ap fields_seen (take_more fields at d within) ∙ map-append field_seen (take at fields) (get_or fields at d ∷ []) in
     rw (is, more) (sym (occurs_more name (fields_seen (take at fields)) (field_seen (get_or fields at d))))
 
 -- ---- lengths

@@ -1,6 +1,6 @@
 -- The places of heads: a whole head ends at its end, and bytes that end in a target are seen to.
-use Rattle.std.proofs.Common.{◌≡◌, ℕ, zero, suc, ◌+◌, ◌*◌, ◌<◌, ◌≤◌, Bool, true, false, List, [], ◌∷◌, ◌++◌, length, refl, sym, ap, ◌∙◌, arith, append_assoc, subst, ltb}
-use Rattle.std.specs.Prelude.{fold, All, codes, slice_index, if◌then◌else◌, ◌==◌, ◌||◌}
+use Rattle.std.proofs.Common.{◌≡◌, ℕ, zero, suc, ◌+◌, ◌<◌, ◌≤◌, Bool, true, false, List, [], ◌∷◌, ◌++◌, length, refl, sym, ap, ◌∙◌, arith, append_assoc, ltb}
+use Rattle.std.specs.Prelude.{fold, All, slice_index, if◌then◌else◌, ◌==◌, ◌||◌}
 use Rattle.std.specs.List.{flat_map}
 use Rattle.std.proofs.lemmas.Bool.{eqb-true}
 use Rattle.std.proofs.lemmas.List.Elements.{All-head, All-tail, All-nil}
@@ -111,8 +111,22 @@ pub head_reads : (h : RequestHead) → IsRequestHead h → fold step Start (prin
 unfolding print_request
 head_reads h is =
     ap (fold step Start) (head_parts (print_blank h.blank) h.method h.target (print_version h.minor) (print_end h.line_end) (print_section h.fields h.last))
-    ∙ rw (fold-append, blank_stays h.blank, fold-append, method_begins h.method is.method, fold-append, space_to_target, fold-append, target_begins h.target is.target.0 is.target.1,
-      fold-append, space_to_version, fold-append, version_reads h.minor is.minor, fold-append, line_ends h.line_end) (section_reads h.fields h.last is.fields)
+    ∙ rw (
+      fold-append,
+      blank_stays h.blank,
+      fold-append,
+      method_begins h.method is.method,
+      fold-append,
+      space_to_target,
+      fold-append,
+      target_begins h.target is.target.0 is.target.1,
+      fold-append,
+      space_to_version,
+      fold-append,
+      version_reads h.minor is.minor,
+      fold-append,
+      line_ends h.line_end,
+    ) (section_reads h.fields h.last is.fields)
 
 -- ---- places that stay
 
@@ -274,40 +288,40 @@ rest_of [] TargetStart t = All-nil _
 rest_of [] Target t = All-nil _
 rest_of (b ∷ bytes) Start t =
     elim (is_token_byte b) as (λ v. is_token_byte b ≡ v → is_in_target (fold step (if v then Method else (if b == 13 then StartReturn else (if b == 10 then Start else Dead))) bytes) ≡ true → EndsInTarget (b ∷ bytes)) [
-      true ↦ λ here h. method_first b bytes here (rest_of bytes Method h)
-    | false ↦ λ _ h.
-      elim (b == 13) as (λ v. (b == 13) ≡ v → is_in_target (fold step (if v then StartReturn else (if b == 10 then Start else Dead)) bytes) ≡ true → EndsInTarget (b ∷ bytes)) [
-        true ↦ λ same g. after_return b bytes (same_byte b 13 same) (rest_of bytes StartReturn g)
-      | false ↦ λ _ g.
-        elim (b == 10) as (λ v. (b == 10) ≡ v → is_in_target (fold step (if v then Start else Dead) bytes) ≡ true → EndsInTarget (b ∷ bytes)) [
-          true ↦ λ same f. after_feed b bytes (same_byte b 10 same) (rest_of bytes Start f)
-        | false ↦ λ _ f. absurd (never_back bytes Dead refl f)
-        ] refl g
-      ] refl h
+      | true ↦ λ here h. method_first b bytes here (rest_of bytes Method h)
+      | false ↦ λ _ h.
+          elim (b == 13) as (λ v. (b == 13) ≡ v → is_in_target (fold step (if v then StartReturn else (if b == 10 then Start else Dead)) bytes) ≡ true → EndsInTarget (b ∷ bytes)) [
+            | true ↦ λ same g. after_return b bytes (same_byte b 13 same) (rest_of bytes StartReturn g)
+            | false ↦ λ _ g.
+                elim (b == 10) as (λ v. (b == 10) ≡ v → is_in_target (fold step (if v then Start else Dead) bytes) ≡ true → EndsInTarget (b ∷ bytes)) [
+                  | true ↦ λ same f. after_feed b bytes (same_byte b 10 same) (rest_of bytes Start f)
+                  | false ↦ λ _ f. absurd (never_back bytes Dead refl f)
+                ] refl g
+          ] refl h
     ] refl t
 rest_of (b ∷ bytes) StartReturn t =
     elim (b == 10) as (λ v. (b == 10) ≡ v → is_in_target (fold step (if v then Start else Dead) bytes) ≡ true → RestOf StartReturn (b ∷ bytes)) [
-      true ↦ λ same h. (bytes, ap (λ (c : ℕ). c ∷ bytes) (same_byte b 10 same), rest_of bytes Start h)
-    | false ↦ λ _ h. absurd (never_back bytes Dead refl h)
+      | true ↦ λ same h. (bytes, ap (λ (c : ℕ). c ∷ bytes) (same_byte b 10 same), rest_of bytes Start h)
+      | false ↦ λ _ h. absurd (never_back bytes Dead refl h)
     ] refl t
 rest_of (b ∷ bytes) Method t =
     elim (is_token_byte b) as (λ v. is_token_byte b ≡ v → is_in_target (fold step (in_run v Method b 32 TargetStart) bytes) ≡ true → RestOf Method (b ∷ bytes)) [
-      true ↦ λ here h. method_more b bytes here (rest_of bytes Method h)
-    | false ↦ λ _ h.
-      elim (b == 32) as (λ v. (b == 32) ≡ v → is_in_target (fold step (if v then TargetStart else Dead) bytes) ≡ true → RestOf Method (b ∷ bytes)) [
-        true ↦ λ same g. ([], bytes, All-nil _, rest_of bytes TargetStart g, ap (λ (c : ℕ). c ∷ bytes) (same_byte b 32 same))
-      | false ↦ λ _ g. absurd (never_back bytes Dead refl g)
-      ] refl h
+      | true ↦ λ here h. method_more b bytes here (rest_of bytes Method h)
+      | false ↦ λ _ h.
+          elim (b == 32) as (λ v. (b == 32) ≡ v → is_in_target (fold step (if v then TargetStart else Dead) bytes) ≡ true → RestOf Method (b ∷ bytes)) [
+            | true ↦ λ same g. ([], bytes, All-nil _, rest_of bytes TargetStart g, ap (λ (c : ℕ). c ∷ bytes) (same_byte b 32 same))
+            | false ↦ λ _ g. absurd (never_back bytes Dead refl g)
+          ] refl h
     ] refl t
 rest_of (b ∷ bytes) TargetStart t =
     elim (is_uri_byte b) as (λ v. is_uri_byte b ≡ v → is_in_target (fold step (if v then Target else Dead) bytes) ≡ true → AllPass is_uri_byte (b ∷ bytes)) [
-      true ↦ λ here h. all_cons is_uri_byte b bytes here (rest_of bytes Target h)
-    | false ↦ λ _ h. absurd (never_back bytes Dead refl h)
+      | true ↦ λ here h. all_cons is_uri_byte b bytes here (rest_of bytes Target h)
+      | false ↦ λ _ h. absurd (never_back bytes Dead refl h)
     ] refl t
 rest_of (b ∷ bytes) Target t =
     elim (is_uri_byte b) as (λ v. is_uri_byte b ≡ v → is_in_target (fold step (in_run v Target b 32 (Version 0)) bytes) ≡ true → AllPass is_uri_byte (b ∷ bytes)) [
-      true ↦ λ here h. all_cons is_uri_byte b bytes here (rest_of bytes Target h)
-    | false ↦ λ _ h. absurd (never_back bytes (expect b 32 (Version 0)) (past_if (b == 32) (Version 0) Dead refl refl) h)
+      | true ↦ λ here h. all_cons is_uri_byte b bytes here (rest_of bytes Target h)
+      | false ↦ λ _ h. absurd (never_back bytes (expect b 32 (Version 0)) (past_if (b == 32) (Version 0) Dead refl refl) h)
     ] refl t
 
 -- bytes whose place is in a target end there

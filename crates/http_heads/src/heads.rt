@@ -7,8 +7,8 @@ ghost use Rattle.http_heads.specs.Heads.{HearsAs, IsHeadOf, ScansAs, fields_seen
 ghost use Rattle.http_heads.specs.Places.{place_of};
 
 use crate::Place;
-use httparse::spans::{HeaderSpan, RequestSpans, parse_request};
 use httparse::Status;
+use httparse::spans::{HeaderSpan, RequestSpans, parse_request};
 use std::alloc::{AllocError, Global};
 
 /// The spans that a reader of heads is lent: a field has at least three bytes, so a head of 16,384 bytes never has more fields.

@@ -1,6 +1,6 @@
 -- Numbers and sections are read as they are spelled.
-use Rattle.std.proofs.Common.{◌≡◌, ℕ, zero, suc, ◌+◌, ◌^◌, ◌<◌, ◌≤◌, Bool, true, false, List, [], ◌∷◌, length, map, sym, ap, ◌∙◌, refl, arith, Result, Ok, Err, Option, Some, None, decimal, get_or, ltb, leb, subst, IsTrue}
-use Rattle.std.specs.Prelude.{◌==◌, ◌≢◌, ◌&&◌, if◌then◌else◌, nat_le, nat_lt, IfSome}
+use Rattle.std.proofs.Common.{◌≡◌, ℕ, zero, suc, ◌^◌, ◌<◌, ◌≤◌, Bool, true, false, List, [], ◌∷◌, length, map, sym, ap, ◌∙◌, refl, arith, Result, Ok, Err, Option, Some, None, decimal, get_or, ltb, leb, subst, IsTrue}
+use Rattle.std.specs.Prelude.{◌==◌, ◌≢◌, ◌&&◌, if◌then◌else◌, IfSome}
 use Rattle.std.specs.Char.{digit_value, is_ascii_hexdigit}
 use Rattle.std.specs.List.{All, list_all, slice_split}
 use Rattle.std.specs.Result.{OkIff, result_ok}

@@ -1,9 +1,7 @@
 -- The ask of a request is that of its row's route.
-use Rattle.std.proofs.Common.{◌≡◌, ℕ, List, [], ◌++◌, sym, ap, ◌∙◌, refl, append-nil, Option, Some, None, Result, Err, subst}
-use Rattle.std.specs.Prelude.{option_map}
+use Rattle.std.proofs.Common.{◌≡◌, ℕ, List, [], sym, ap, ◌∙◌, append-nil, Option, Some, Result, subst}
 use Rattle.site_asks.specs.declared.asks.Ask.{Ask}
 use Rattle.http_routes.specs.declared.RouteFault.{RouteFault}
-use Rattle.http_routes.specs.declared.RouteFault.TheVariants.{NoRoute}
 use Rattle.http_routes.specs.declared.fields.Field.{Field}
 use Rattle.http_routes.specs.Asks.{route_ask, row_ask}
 use Rattle.http_routes.specs.Fields.{KeepsLook, Look, look_in, request_fields}

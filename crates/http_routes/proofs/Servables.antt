@@ -1,9 +1,8 @@
 -- The values that fields may have.
-use Rattle.std.proofs.Common.{◌≡◌, ℕ, zero, suc, ◌+◌, ◌<◌, ◌≤◌, Bool, true, false, List, [], ◌∷◌, length, refl, arith, Option, Some, None, Result, Ok, Err, subst, get_or, ltb, leb}
-use Rattle.std.specs.Prelude.{codes, ◌==◌, ◌&&◌, ◌||◌, ◌≢◌, All, if◌then◌else◌}
+use Rattle.std.proofs.Common.{◌≡◌, ℕ, zero, suc, ◌<◌, ◌≤◌, true, false, List, [], ◌∷◌, length, refl, arith, Option, Some, None, Ok, subst, get_or, ltb, leb}
+use Rattle.std.specs.Prelude.{codes, ◌==◌, ◌&&◌, ◌||◌, if◌then◌else◌}
 use Rattle.std.specs.List.{list_any}
 use Rattle.std.proofs.lemmas.Bool.{leb-true, ltb-true}
-use Rattle.http_routes.specs.declared.RouteFault.{RouteFault}
 use Rattle.http_routes.specs.Asks.{needed, optional, page_field, kept_field, user_field, password_field}
 use Rattle.http_routes.specs.Fields.{Look, Occurs}
 use Rattle.http_routes.specs.Fields.Occurs.{never, once, twice}

@@ -3,7 +3,6 @@ use Rattle.std.specs.Prelude.{◌==◌, ℕ, Bool, true, false, ◌&&◌, List, 
 use Rattle.std.specs.List.{after_first, before_first}
 use Rattle.std.specs.Str.{bytes_eq}
 use Rattle.account_pictures.specs.declared.records.Address.{Address}
-use Rattle.account_pictures.specs.declared.records.Identity.{Identity}
 use Rattle.site_asks.specs.declared.Draft.{Draft}
 use Rattle.site_asks.specs.declared.asks.Ask.{Ask}
 use Rattle.site_asks.specs.declared.asks.Ask.TheVariants as ask

@@ -1,6 +1,5 @@
-use Rattle.std.proofs.Common.{List, ℕ, refl, subst, sym, arith}
+use Rattle.std.proofs.Common.{refl, subst, sym, arith}
 use Rattle.httparse.specs.Grammar.{HasNoRequest}
-use Rattle.http_heads.specs.Places.{place_of}
 use Rattle.http_heads.proofs.Scans.{nothing_heard}
 use Rattle.http_front.proofs.Hearing.{hears_nothing, hears_trans, keeps_all}
 use Rattle.http_front.proofs.receiving.receive_head.Goals as goal

@@ -1,8 +1,5 @@
-use Rattle.std.proofs.Common.{◌≡◌, subst, Err}
-use Rattle.http_front.specs.Requests.{AnswersHeard}
 use Rattle.http_front.proofs.Hearing.{keeps_trans}
 use Rattle.http_front.proofs.Wholes.{answered, head_refused, of_err}
-use Rattle.http_front.specs.declared.faults.AskFault.{AskFault}
 use Rattle.http_front.proofs.requests.read_ask.Goals as goal
 
 pub returns-in_err-head-clause-answers : goal.returns-in_err-head-clause-answers

@@ -1,5 +1,4 @@
-use Rattle.http_routes.specs.Fields.{field_of, is_named}
-use Rattle.http_routes.specs.Routes.{texts_seen}
+use Rattle.http_routes.specs.Fields.{field_of}
 use Rattle.http_routes.proofs.Looks.{is_twice_found, twice_is, twice_kept}
 use Rattle.http_routes.proofs.fields.push_named.Goals as goal
 

@@ -1,4 +1,4 @@
-use Rattle.std.proofs.Common.{◌∙◌, Some, sym}
+use Rattle.std.proofs.Common.{◌∙◌}
 use Rattle.http_routes.proofs.Numbers.{no_section, none_is_some, spelled_section}
 use Rattle.http_routes.proofs.values.parse_section.Goals as goal
 
