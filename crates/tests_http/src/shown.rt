@@ -180,6 +180,19 @@ fn fault(alloc: Global, fault: &AskFault) -> Result<String, AllocError> {
     }
 }
 
+/// An ask and a cookie as a text.
+fn with_cookie(alloc: Global, ask: &Ask, cookie: &Option<Text>) -> Result<String, AllocError> {
+    let ask = asked(alloc, ask)?;
+    match cookie {
+        Some(cookie) => {
+            let ask = ask.as_str();
+            let cookie = cookie.as_str();
+            format!(in alloc; "{ask} wm={cookie}")
+        }
+        None => Ok(ask),
+    }
+}
+
 /// What a caller with these chunks asks for, and its cookie. The calls of these numbers fail.
 pub fn read(
     alloc: Global,
@@ -189,13 +202,7 @@ pub fn read(
 ) -> Result<String, AllocError> {
     let mut caller = ScriptedCaller::new(alloc, Words::from_vec(chunks), room, 0, failing)?;
     match read_ask(alloc, &mut caller, FORM) {
-        Ok((ask, None)) => asked(alloc, &ask),
-        Ok((ask, Some(cookie))) => {
-            let ask = asked(alloc, &ask)?;
-            let ask = ask.as_str();
-            let cookie = cookie.as_str();
-            format!(in alloc; "{ask} wm={cookie}")
-        }
+        Ok((ask, cookie)) => with_cookie(alloc, &ask, &cookie),
         Err(refused) => fault(alloc, &refused),
     }
 }
