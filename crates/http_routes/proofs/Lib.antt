@@ -1,3 +1,4 @@
+mod AskExamples
 pub mod Looks
 pub mod Numbers
 pub mod Pieces

@@ -7,7 +7,7 @@ use std::test::Fail;
 fn head_of(alloc: Global, len: usize) -> Result<Vec<u8>, AllocError> {
     let mut head = Vec::new(alloc);
     head.extend_from_slice(b"GET /login HTTP/1.1\r\nX: ")?;
-    while head.len() + 4 < len {
+    for _ in 0..len.saturating_sub(28) {
         head.push(b'a')?;
     }
     head.extend_from_slice(b"\r\n\r\n")?;
@@ -29,9 +29,8 @@ fn fields_of(alloc: Global, count: usize) -> Result<Vec<u8>, AllocError> {
 fn longest_login(alloc: Global) -> Result<Vec<u8>, AllocError> {
     let mut request = Vec::new(alloc);
     request.extend_from_slice(b"POST /login HTTP/1.1\r\nContent-Length: 1048576\r\n\r\n")?;
-    let from = request.len();
     request.extend_from_slice(b"user=ann&password=pw&x=")?;
-    while request.len() - from < 1_048_576 {
+    for _ in 23..1_048_576 {
         request.push(b'a')?;
     }
     Ok(request)
@@ -85,7 +84,12 @@ fn is_cut(rt: HostRuntime) -> Result<(), Fail> {
     let alloc = rt.alloc();
     for failing in 1..5 {
         let mut chunks = Vec::new(alloc);
-        for piece in ["POST /login HT", "TP/1.1\r\nContent-Length: 20\r\n\r\n", "user=ann&", "password=pw"] {
+        for piece in [
+            "POST /login HT",
+            "TP/1.1\r\nContent-Length: 20\r\n\r\n",
+            "user=ann&",
+            "password=pw",
+        ] {
             chunks.push(Bytes::from_slice(alloc, piece.as_bytes())?)?;
         }
         let read = read(alloc, chunks, 100, vec![in alloc; failing]?)?;
