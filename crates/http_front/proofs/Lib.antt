@@ -1,0 +1,5 @@
+pub mod CookieFields
+pub mod Hearing
+pub mod Parts
+mod ReplyExamples
+pub mod Wholes

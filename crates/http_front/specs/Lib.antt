@@ -1,0 +1,5 @@
+pub mod Faults
+pub mod Replies
+pub mod Receiving
+pub mod Requests
+pub mod Answering

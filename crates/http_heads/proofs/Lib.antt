@@ -1,0 +1,4 @@
+pub mod Framings
+mod HeadExamples
+pub mod Rooms
+pub mod Scans
