@@ -1,5 +1,5 @@
 -- The bytes of what is spelled.
-use Rattle.std.proofs.Common.{◌≡◌, ℕ, ◌+◌, ◌<◌, ◌≤◌, Bool, true, false, not, cond, Option, Some, None, eqb, ltb, ◌||◌, inl, inr, ne_eqb, suc, List, [], ◌∷◌, ◌++◌, length, take, drop, get_or, slice_index_or, refl, sym, ap, ◌∙◌, append_assoc, append-nil, codes, chars, encode_utf8_all, IsUtf8, arith, Result, Ok, Err, OnOk}
+use Rattle.std.proofs.Common.{◌≡◌, ℕ, ◌+◌, ◌<◌, ◌≤◌, Bool, true, false, not, cond, Option, Some, None, eqb, ltb, ◌||◌, ◌&&◌, ◌==◌, inl, inr, ne_eqb, suc, List, [], ◌∷◌, ◌++◌, length, take, drop, get_or, slice_index_or, refl, sym, ap, ◌∙◌, append_assoc, append-nil, codes, chars, encode_utf8_all, IsUtf8, arith, Result, Ok, Err, OnOk}
 use Rattle.std.proofs.lemmas.List.{at_drop_more, take_more, flat_map_more}
 use Rattle.std.proofs.lemmas.Bool.{cases_lt, cases_eq}
 use Rattle.std.proofs.lemmas.Str.{encodes-append, encodes-chars, encode_ascii, scalars-chars}
@@ -14,7 +14,6 @@ use Rattle.page_writer.specs.Bytes.{spell_byte, spell_bytes, attribute_bytes, Ex
 use Rattle.page_writer.proofs.Names.{spelled}
 use Rattle.page_writer.proofs.Names.Spelled.{is_lt, is_gt, is_amp, is_quot, is_cr, itself}
 use Rattle.std.specs.Option.{is_some}
-use Rattle.memchr.specs.Find.{is_byte3, IsFirstByte}
 use lib.Utf8.{encode, encodes, scalars}
 
 -- ---- bytes in front
@@ -101,38 +100,40 @@ encodes-spelled (c ∷ cs) =
 pub text_bytes : (bytes : List ℕ) → IsUtf8 bytes → spell_bytes bytes ≡ encode_utf8_all (spell_chars (chars bytes))
 text_bytes bytes utf8 = ap spell_bytes (sym (encodes-chars bytes utf8)) ∙ encodes-spelled (chars bytes)
 
-or3_false : (x y z : Bool) → (((x || y) || z) ≡ true → ⊥) → (x ≡ false) × (y ≡ false) × (z ≡ false)
-or3_false true y z h = absurd (h refl)
-or3_false false true z h = absurd (h refl)
-or3_false false false true h = absurd (h refl)
+or3_false : (x y z : Bool) → ((x || y) || z) ≡ false → (x ≡ false) × (y ≡ false) × (z ≡ false)
+or3_false true y z h = cc
+or3_false false true z h = cc
+or3_false false false true h = cc
 or3_false false false false h = (refl, refl, refl)
 
-plain_byte : (b : ℕ) → (is_byte3 60 62 38 b ≡ true → ⊥) → (is_byte3 34 13 0 b ≡ true → ⊥) → spell_byte b ≡ b ∷ []
-plain_byte b g h =
-    let e0 = or3_false (eqb b 60) (eqb b 62) (eqb b 38) g in
-    let e1 = or3_false (eqb b 34) (eqb b 13) (eqb b 0) h in
-    rw (e1.2, e0.0, e0.1, e0.2, e1.0, e1.1) refl
-
--- bytes among which a search found none that is escaped
-pub plain_bytes : (bs : List ℕ) → ((k : ℕ) → k < length bs → is_byte3 60 62 38 (get_or bs k 0) ≡ true → ⊥) → ((k : ℕ) → k < length bs → is_byte3 34 13 0 (get_or bs k 0) ≡ true → ⊥) → spell_bytes bs ≡ bs
-unfolding spell_bytes
-plain_bytes [] g h = refl
-plain_bytes (b ∷ bs) g h =
-    let first = plain_byte b (g 0 (omega arith)) (h 0 (omega arith)) in
-    let rest = plain_bytes bs (λ k lt. g (suc k) (omega arith)) (λ k lt. h (suc k) (omega arith)) in
-    ap (λ (x : List ℕ). x ++ spell_bytes bs) first ∙ ap (λ (x : List ℕ). b ∷ x) rest
-
--- what two such searches say
-none_first : (test : ℕ → Bool) (bs : List ℕ) (r : Option ℕ) → IsFirstByte test bs r → is_some r ≡ false → (k : ℕ) → k < length bs → test (get_or bs k 0) ≡ true → ⊥
-none_first test bs (Some i) h e k lt p = absurd cc
-none_first test bs None h e k lt p = h k (omega arith) lt p
-
-pub plain_if : (bs : List ℕ) (r s : Option ℕ) (a b : Bool) → IsFirstByte (is_byte3 60 62 38) bs r → IsFirstByte (is_byte3 34 13 0) bs s
-    → is_some r ≡ not a → is_some s ≡ not b → a ≡ true → b ≡ true → spell_bytes bs ≡ bs
-plain_if bs r s a b g h e f a_is b_is =
-    plain_bytes bs (none_first (is_byte3 60 62 38) bs r g (e ∙ ap not a_is)) (none_first (is_byte3 34 13 0) bs s h (f ∙ ap not b_is))
+-- a byte that none of six tests finds is spelled as itself
+pub plain_byte : (b : ℕ) → (not ((b == 60 || b == 62) || b == 38) && not ((b == 34 || b == 13) || b == 0)) ≡ true → spell_byte b ≡ b ∷ []
+plain_byte b none = go ((b == 60 || b == 62) || b == 38) ((b == 34 || b == 13) || b == 0) refl refl none
+  where
+    go : (x y : Bool) → ((b == 60 || b == 62) || b == 38) ≡ x → ((b == 34 || b == 13) || b == 0) ≡ y → (not x && not y) ≡ true → spell_byte b ≡ b ∷ []
+    go true y ex ey h = cc
+    go false true ex ey h = cc
+    go false false ex ey h =
+        let e0 = or3_false (b == 60) (b == 62) (b == 38) ex in
+        let e1 = or3_false (b == 34) (b == 13) (b == 0) ey in
+        rw (e1.2, e0.0, e0.1, e0.2, e1.0, e1.1) refl
 
 -- ---- loops
+
+-- one plain byte more
+pub plain_step : (bs : List ℕ) (i : ℕ) (all plain : Bool) → i < length bs → (all ≡ true → spell_bytes (take i bs) ≡ take i bs) → (plain ≡ true → spell_byte (get_or bs i 0) ≡ get_or bs i 0 ∷ []) → (all && plain) ≡ true → spell_bytes (take (i + 1) bs) ≡ take (i + 1) bs
+unfolding spell_bytes
+plain_step bs i false plain lt before now both = cc
+plain_step bs i true false lt before now both = cc
+plain_step bs i true true lt before now both =
+    let b = get_or bs i 0 in
+    let split : take (i + 1) bs ≡ take i bs ++ b ∷ [] = take_more bs i 0 lt in
+    let one : spell_bytes (b ∷ []) ≡ b ∷ [] = append-nil (spell_byte b) ∙ now refl in
+    ap spell_bytes split ∙ spell_bytes-append (take i bs) (b ∷ []) ∙ ap (λ (x : List ℕ). x ++ spell_bytes (b ∷ [])) (before refl) ∙ ap (λ (x : List ℕ). take i bs ++ x) one ∙ sym split
+
+-- a text of plain bytes is written as it is
+pub plain_text : (bytes old new : List ℕ) → IsUtf8 bytes → spell_bytes bytes ≡ bytes → new ≡ old ++ bytes → new ≡ old ++ encode_utf8_all (spell_chars (chars bytes))
+plain_text bytes old new utf8 plain e = e ∙ ap (λ (x : List ℕ). old ++ x) (sym plain ∙ text_bytes bytes utf8)
 
 pub each_step : (bs : List ℕ) (i : ℕ) (old now new : List ℕ) → i < length bs → now ≡ old ++ spell_bytes (take i bs) → new ≡ now ++ spell_byte (get_or bs i 0) → new ≡ old ++ spell_bytes (take (i + 1) bs)
 unfolding spell_bytes

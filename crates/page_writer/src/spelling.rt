@@ -10,7 +10,6 @@ ghost use Rattle.page_writer.specs.Bytes.{spell_byte, spell_bytes, attribute_byt
 
 use crate::Memory;
 use html_syntax::Attributes;
-use memchr::memchr3;
 use std::alloc::Global;
 
 /// Bytes of a text that are searched together for one that is escaped.
@@ -60,11 +59,25 @@ pub fn push_each(out: &mut Vec<u8>, bytes: &[u8]) -> Result<(), Memory>
     Ok(())
 }
 
-/// Whether each of the bytes is spelled as itself.
+/// Whether each of the bytes is spelled as itself. It reads all of them: without an end in its midst, the loop is done on many bytes at
+/// once.
 pub fn is_plain(bytes: &[u8]) -> bool
     ensures { IsTrue result → spell_bytes bytes.now ≡ bytes.now }
 {
-    memchr3(b'<', b'>', b'&', bytes).is_none() && memchr3(b'"', b'\r', 0, bytes).is_none()
+    let mut all = true;
+    for byte in bytes {
+        all &= is_plain_byte(*byte);
+    }
+    all
+}
+
+#[tactic(auto, using(crate::proofs::Bytes::plain_byte))]
+fn is_plain_byte(byte: u8) -> bool
+    ensures { IsTrue result → spell_byte byte ≡ byte ∷ [] }
+{
+    let is_markup = (byte == b'<') | (byte == b'>') | (byte == b'&');
+    let is_other = (byte == b'"') | (byte == b'\r') | (byte == 0);
+    !is_markup & !is_other
 }
 
 fn push_chunk(out: &mut Vec<u8>, bytes: &[u8]) -> Result<(), Memory>
@@ -78,7 +91,7 @@ fn push_chunk(out: &mut Vec<u8>, bytes: &[u8]) -> Result<(), Memory>
     }
 }
 
-fn push_text(out: &mut Vec<u8>, text: &str) -> Result<(), Memory>
+fn push_chunks(out: &mut Vec<u8>, text: &str) -> Result<(), Memory>
     ensures ok { OnOk result (out.new.items ≡ out.old.items ++ encode_utf8_all (spell_chars (chars text.now))) }
     ensures extends { Extends out.old.items out.new.items }
 {
@@ -86,6 +99,19 @@ fn push_text(out: &mut Vec<u8>, text: &str) -> Result<(), Memory>
         push_chunk(out, chunk)?;
     }
     Ok(())
+}
+
+/// Appends a text as it is spelled. Most texts have nothing to be escaped, and are copied at once.
+#[tactic(auto, using(crate::proofs::Bytes::plain_text))]
+fn push_text(out: &mut Vec<u8>, text: &str) -> Result<(), Memory>
+    ensures ok { OnOk result (out.new.items ≡ out.old.items ++ encode_utf8_all (spell_chars (chars text.now))) }
+    ensures extends { Extends out.old.items out.new.items }
+{
+    if is_plain(text.as_bytes()) {
+        push(out, text.as_bytes())
+    } else {
+        push_chunks(out, text)
+    }
 }
 
 fn push_attribute(out: &mut Vec<u8>, name: &str, value: &str) -> Result<(), Memory>

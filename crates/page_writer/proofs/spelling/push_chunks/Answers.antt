@@ -1,6 +1,6 @@
 use Rattle.std.proofs.Common.{◌∙◌}
 use Rattle.page_writer.proofs.Bytes.{Extends-trans, chunk_step, chunks_done}
-use Rattle.page_writer.proofs.spelling.push_text.Goals as goal
+use Rattle.page_writer.proofs.spelling.push_chunks.Goals as goal
 
 pub loop-chunk-preserved : goal.loop-chunk-preserved
 loop-chunk-preserved c =

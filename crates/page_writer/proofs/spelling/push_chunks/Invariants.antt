@@ -1,7 +1,7 @@
 use Rattle.std.proofs.Common.{◌≡◌, ◌++◌}
 use Rattle.std.specs.Slice.Iter.{chunks_rest, chunks_size}
 use Rattle.page_writer.specs.Bytes.{spell_bytes, Extends}
-use Rattle.page_writer.proofs.spelling.push_text.Given as goal
+use Rattle.page_writer.proofs.spelling.push_chunks.Given as goal
 
 abbrev pub invariant-loop-chunk : goal.invariant-loop-chunk
 invariant-loop-chunk l =
