@@ -5,6 +5,7 @@
 //! all kinds of work on fixed inputs.
 #![tactic(auto)]
 
+mod asks;
 mod check;
 mod codings;
 mod drafts;
@@ -27,7 +28,7 @@ use work::{Input, Work, perform, result_of, work_named};
 const USAGE: &str = "usage: bench WORK [TIMES]
        bench stream-base64|check
 works: decode-base64 decode-quoted encode-base64 encode-quoted tree refer[-below]
-       responses[-1|-64|-4096] hear[-1|-64|-65536] read-flowed[-del-sp] write-flowed[-quoted] build spans tags tokens print-tokens
+       responses[-1|-64|-4096] hear[-1|-64|-65536] read-flowed[-del-sp] write-flowed[-quoted] build asks[-1] spans tags tokens print-tokens
        wash[-images|-below] print-wash read-facts threads list-threads add[-all]-threads print-threads";
 
 /// Writes the microseconds of each run to standard error, and then the result.

@@ -2,7 +2,7 @@
 
 use crate::washing::Choice;
 use crate::{
-    codings, drafts, flowed, hearing, parts, references, responses, threads, tokens, washing,
+    asks, codings, drafts, flowed, hearing, parts, references, responses, threads, tokens, washing,
 };
 use std::alloc::{AllocError, Global};
 use std::str::from_utf8;
@@ -23,6 +23,8 @@ pub enum Work {
     ReadFlowed { del_sp: bool },
     WriteFlowed { depth: u32 },
     Build,
+    /// A request that comes in pieces of this many bytes.
+    Asks { piece: usize },
     Spans,
     Tags,
     Tokens,
@@ -75,6 +77,8 @@ pub fn work_named(word: &str) -> Option<Work> {
         "write-flowed" => Some(Work::WriteFlowed { depth: 0 }),
         "write-flowed-quoted" => Some(Work::WriteFlowed { depth: 80 }),
         "build" => Some(Work::Build),
+        "asks" => Some(Work::Asks { piece: usize::MAX }),
+        "asks-1" => Some(Work::Asks { piece: 1 }),
         "spans" => Some(Work::Spans),
         "tags" => Some(Work::Tags),
         "tokens" => Some(Work::Tokens),
@@ -102,7 +106,7 @@ pub fn work_named(word: &str) -> Option<Work> {
     }
 }
 
-/// Does the work once, and returns how many bytes, parts, references, responses, rows, paragraphs, spans, attributes, tokens, facts, roots of threads or bytes of a page or a message came of it.
+/// Does the work once, and returns how many bytes, parts, references, responses, rows, paragraphs, spans, attributes, tokens, facts, roots of threads, asks or bytes of a page or a message came of it.
 pub fn perform(alloc: Global, work: Work, input: &Input<'_>) -> Result<usize, AllocError> {
     match work {
         Work::Decode(_) | Work::EncodeBase64 | Work::EncodeQuoted => {
@@ -115,6 +119,7 @@ pub fn perform(alloc: Global, work: Work, input: &Input<'_>) -> Result<usize, Al
         Work::ReadFlowed { del_sp } => flowed::count_paragraphs(alloc, input.text, del_sp),
         Work::WriteFlowed { depth } => flowed::written_len(alloc, input.text, depth),
         Work::Build => Ok(drafts::built(alloc, input.text)?.len()),
+        Work::Asks { piece } => asks::count_asks(alloc, input.bytes, piece),
         Work::Spans => Ok(tokens::count_spans(input.text)),
         Work::Tags => Ok(tokens::count_attributes(input.text)),
         Work::Tokens => tokens::count_tokens(alloc, input.text),
@@ -147,6 +152,7 @@ pub fn result_of(alloc: Global, work: Work, input: &Input<'_>) -> Result<Vec<u8>
         Work::Refer { .. }
         | Work::ReadFlowed { .. }
         | Work::WriteFlowed { .. }
+        | Work::Asks { .. }
         | Work::Spans
         | Work::Tags
         | Work::Tokens
