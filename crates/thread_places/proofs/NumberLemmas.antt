@@ -5,10 +5,8 @@ use Rattle.std.specs.List.{position_or_len, list_any}
 use Rattle.std.specs.BTreeMap as tree
 use Rattle.std.specs.BTreeMap.{BTreeMap}
 use Rattle.std.specs.Map.{lookup, KeepsOthers, IsKeyTest, AreApart}
-use Rattle.std.specs.declared.cmp.Ordering.{Ordering}
-use Rattle.std.specs.declared.cmp.Ordering.TheVariants.{Less, Equal, Greater}
-use Rattle.std.specs.Ordering.{is_eq, nat_cmp, ordering_then}
-use Rattle.std.specs.Cmp.{IsTotalOrder, then_total, on_total, nat_cmp_total, eq_by_cmp_equiv}
+use Rattle.std.specs.Ordering.{is_eq, nat_cmp}
+use Rattle.std.specs.Cmp.{eq_by_cmp_equiv}
 use Rattle.std.specs.Cmp.Lexicographic.{slice_cmp, nat_list_cmp_total, nat_list_eq_equiv}
 use Rattle.std.proofs.lemmas.Bool.{cases_Bool, cases_lt, lt-ltb, le-ltb, ne_eqb, eq-eqb, cond-true, cond-false, ltb-true, cases_eq}
 use Rattle.std.proofs.lemmas.List.Folds.{position_or_len_push}
@@ -22,7 +20,7 @@ use Rattle.std.proofs.lemmas.List.Folds.{list_any-append}
 use Rattle.thread_places.specs.declared.names.Names.{Names}
 use Rattle.thread_places.specs.Links.{is_among}
 use Rattle.thread_places.specs.declared.facts.Facts.{Facts}
-use Rattle.thread_places.specs.Numbers.{HasNames, AreBelow, digest}
+use Rattle.thread_places.specs.Numbers.{HasNames, AreBelow}
 use Rattle.thread_places.specs.Messages.{Name, is_named, Entry, References, Numbering, nodes, add_id, number_of, number_id, number_ids, free_name, own_name, add_name, number_for, add_entry, number_message, number_messages}
 
 -- ---- places
@@ -152,43 +150,12 @@ new_id names id absent =
           (longer, ap (λ l. number_of l id) longer ∙ sym ((known_id (names ++ Some id ∷ []) id (length names) (sym there)).1))
     ]
 
--- ---- a map by byte strings after their digests
-
-key_total : IsTotalOrder (λ (x y : ℕ × List ℕ). ordering_then (nat_cmp x.0 y.0) (slice_cmp nat_cmp x.1 y.1))
-key_total = then_total (on_total (λ (k : ℕ × List ℕ). k.0) nat_cmp_total) (on_total (λ (k : ℕ × List ℕ). k.1) nat_list_cmp_total)
-
-second_differs : (o p : Ordering) → is_eq p ≡ false → is_eq (ordering_then o p) ≡ false
-second_differs Less p other = refl
-second_differs Equal p other = other
-second_differs Greater p other = refl
-
-second_ties : (o p : Ordering) → is_eq (ordering_then o p) ≡ true → is_eq p ≡ true
-second_ties Less p ties = absurd (cc)
-second_ties Equal p ties = ties
-second_ties Greater p ties = absurd (cc)
-
-abbrev compare_at : {K : Type 0} → (K → ℕ) → (K → List ℕ) → List ℕ → K → Ordering
-compare_at first bytes id key = ordering_then (nat_cmp (digest id) (first key)) (slice_cmp nat_cmp id (bytes key))
-
-abbrev compare_keys : {K : Type 0} → (K → ℕ) → (K → List ℕ) → K → K → Ordering
-compare_keys first bytes x y = ordering_then (nat_cmp (first x) (first y)) (slice_cmp nat_cmp (bytes x) (bytes y))
-
-updates_digest : {K X : Type 0} (first : K → ℕ) (bytes : K → List ℕ) (bs : List ℕ) (m n : BTreeMap K X) (w : Option X) → tree.UpdatesBy (compare_keys first bytes) (compare_at first bytes bs) m n w
-    → (cs : List ℕ) → tree.get_by (compare_at first bytes cs) n ≡ cond (bytes_eq bs cs) w (tree.get_by (compare_at first bytes cs) m)
-updates_digest first bytes bs m n w h cs =
-    elim (cases_Bool (bytes_eq bs cs)) [
-      | inl same ↦ subst (λ l. tree.get_by (compare_at first bytes l) n ≡ w) ((bytes_eq-Decides bs cs).0 same) h.1 ∙ sym (cond-true (bytes_eq bs cs) w _ same)
-      | inr differs ↦
-          other_entries _ _ _ _ h.3 _ (λ x y. (eq_by_cmp_equiv key_total).congr (digest cs, cs) (first x, bytes x) (first y, bytes y))
-          (λ k here. second_differs (nat_cmp (digest cs) (first k)) _ (apart_in_order bs cs (bytes k) differs (second_ties (nat_cmp (digest bs) (first k)) _ here))) ∙ sym (cond-false (bytes_eq bs cs) w _ differs)
-    ]
-
-pub place_inserted : {K : Type 0} (first : K → ℕ) (bytes : K → List ℕ) (names : List Name) (id : List ℕ) (number count : ℕ) (m n : BTreeMap K ℕ) → number ≡ digest id → count ≡ length names
-    → ((q : List ℕ) → tree.get_by (λ k. ordering_then (nat_cmp (digest q) (first k)) (slice_cmp nat_cmp q (bytes k))) m ≡ position (is_named q) names) → position (is_named id) names ≡ None
-    → tree.UpdatesBy (λ x y. ordering_then (nat_cmp (first x) (first y)) (slice_cmp nat_cmp (bytes x) (bytes y))) (λ k. ordering_then (nat_cmp number (first k)) (slice_cmp nat_cmp id (bytes k))) m n (Some count)
-    → (q : List ℕ) → tree.get_by (λ k. ordering_then (nat_cmp (digest q) (first k)) (slice_cmp nat_cmp q (bytes k))) n ≡ position (is_named q) (names ++ Some id ∷ [])
-place_inserted first bytes names id number count m n is size before absent updates q =
-    updates_digest first bytes id m n (Some count) (subst (λ d. tree.UpdatesBy (compare_keys first bytes) (λ k. ordering_then (nat_cmp d (first k)) (slice_cmp nat_cmp id (bytes k))) m n (Some count)) is updates) q
+pub place_inserted : {K : Type 0} (bytes : K → List ℕ) (names : List Name) (id key : List ℕ) (count : ℕ) (m n : BTreeMap K ℕ) → key ≡ id → count ≡ length names → ((q : List ℕ) → tree.get_by (λ k. slice_cmp nat_cmp q (bytes k)) m ≡ position (is_named q) names) → position (is_named id) names ≡ None
+    → tree.UpdatesBy (λ x y. slice_cmp nat_cmp (bytes x) (bytes y)) (λ k. slice_cmp nat_cmp key (bytes k)) m n (Some count)
+    → (q : List ℕ) → tree.get_by (λ k. slice_cmp nat_cmp q (bytes k)) n ≡ position (is_named q) (names ++ Some id ∷ [])
+place_inserted bytes names id key count m n same size before absent updates q =
+    updates_bytes bytes key m n (Some count) updates q
+    ∙ ap (λ k. cond (bytes_eq k q) (Some count) (tree.get_by (λ k. slice_cmp nat_cmp q (bytes k)) m)) same
     ∙ ap (cond (bytes_eq id q) (Some count)) (before q)
     ∙ ap (λ k. cond (bytes_eq id q) (Some k) (position (is_named q) names)) size
     ∙ sym (new_place names id q absent)
@@ -202,7 +169,7 @@ not_among n (x ∷ xs) below =
     let off : (x == n) ≡ false = ne_eqb x n (λ e. absurd (omega arith)) in rw off (not_among n xs (All-tail (λ v. v < n) x xs below))
 
 pub names_pushed : (names : List Name) (name : Name) (nodes : List ℕ) (t u : Names) → HasNames names nodes t → u.taken.items ≡ t.taken.items ++ false ∷ []
-    → ((id : List ℕ) → tree.get_by (λ k. ordering_then (nat_cmp (digest id) k.0) (slice_cmp nat_cmp id k.1.items)) u.numbers ≡ position (is_named id) (names ++ name ∷ [])) → HasNames (names ++ name ∷ []) nodes u
+    → ((id : List ℕ) → tree.get_by (λ k. slice_cmp nat_cmp id k.items) u.numbers ≡ position (is_named id) (names ++ name ∷ [])) → HasNames (names ++ name ∷ []) nodes u
 names_pushed names name nodes t u has pushed numbers =
     let size : length (names ++ name ∷ []) ≡ length names + 1 = length-append names (name ∷ []) in
     let longer : length (t.taken.items ++ false ∷ []) ≡ length t.taken.items + 1 = length-append t.taken.items (false ∷ []) in
@@ -227,7 +194,7 @@ names_taken names nodes node t u has less marked numbers =
     let count = has.count in
     record {
       count = ap length marked ∙ length-set t.taken.items node true ∙ count;
-      number = λ id. ap (λ m. tree.get_by (λ k. ordering_then (nat_cmp (digest id) k.0) (slice_cmp nat_cmp id k.1.items)) m) numbers ∙ has.number id;
+      number = λ id. ap (λ m. tree.get_by (λ k. slice_cmp nat_cmp id k.items) m) numbers ∙ has.number id;
       taken =
           λ k within.
           ap (λ l. get_or l k false) marked

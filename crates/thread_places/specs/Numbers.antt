@@ -3,8 +3,7 @@ use Rattle.std.specs.Prelude.{◌≡◌, ℕ, ◌<◌, ◌≤◌, ◌+◌, ◌�
 use Rattle.std.specs.List.{All}
 use Rattle.std.specs.BTreeMap.{get_by}
 use Rattle.std.specs.Cmp.Lexicographic.{slice_cmp}
-use Rattle.std.specs.Hash.FoldHasher.{initial, write, finish}
-use Rattle.std.specs.Ordering.{nat_cmp, ordering_then}
+use Rattle.std.specs.Ordering.{nat_cmp}
 use Rattle.thread_places.specs.declared.facts.Facts.{Facts}
 use Rattle.thread_places.specs.declared.names.Names.{Names}
 use Rattle.thread_places.specs.declared.numbering.Numberer.{Numberer}
@@ -30,14 +29,10 @@ pub record Pending : Type 0 where
   pub messages : List Entry
   pub references : References
 
--- a number made of an identifier: two that differ mostly have two numbers
-unfoldable pub digest : List ℕ → ℕ
-digest id = finish (write initial id)
-
 -- the numbers are those of these names, and the nodes that messages have are flagged
 pub record HasNames (names : List Name) (nodes : List ℕ) (t : Names) : Type 0 where
   pub count : length t.taken.items ≡ length names
-  pub number : (id : List ℕ) → get_by (λ k. ordering_then (nat_cmp (digest id) k.0) (slice_cmp nat_cmp id k.1.items)) t.numbers ≡ position (is_named id) names
+  pub number : (id : List ℕ) → get_by (λ k. slice_cmp nat_cmp id k.items) t.numbers ≡ position (is_named id) names
   pub taken : (node : ℕ) → node < length names → get_or t.taken.items node false ≡ is_among node nodes
   pub inside : All (λ node. node < length names) nodes
 

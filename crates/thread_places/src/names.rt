@@ -1,32 +1,16 @@
 //! The numbers of the nodes that identifiers name.
 ghost use Rattle.std.specs.Prelude.{◌≡◌, ◌<◌, ℕ, Some, None, List, ◌∷◌, [], ◌++◌, IfOk, OnOk, length, position, get_or, set, true, false};
 ghost use Rattle.thread_places.specs.Messages.{Name, is_named, add_id, number_of, own_name, add_name, number_for};
-ghost use Rattle.thread_places.specs.Numbers.{HasNames, Known, digest};
+ghost use Rattle.thread_places.specs.Numbers.{HasNames, Known};
 
 use mail_values::Bytes;
 use std::alloc::{AllocError, Global};
 use std::collections::BTreeMap;
-use std::hash::{FoldHasher, Hasher};
-
-/// An identifier, after its digest: identifiers are compared only if their digests are the same. Whoever writes a message can make digests
-/// collide, which costs no more than an order by identifiers alone.
-type Key = (u64, Vec<u8>);
-
-/// Returns the key of an identifier.
-#[tactic(auto, unfolding(crate::specs::Numbers::digest))]
-fn key_of(alloc: Global, id: &[u8]) -> Result<Key, AllocError>
-    ensures digest { IfOk result (λ key. key.0 ≡ digest id.now) }
-    ensures id { IfOk result (λ key. key.1.items ≡ id.now) }
-{
-    let mut hasher = FoldHasher::default();
-    hasher.write(id);
-    Ok((hasher.finish(), Vec::from_slice(alloc, id)?))
-}
 
 /// The numbers of nodes by their identifiers, and for each node whether it is a message's.
 #[derive(Drop)]
 pub struct Names {
-    numbers: BTreeMap<Key, usize>,
+    numbers: BTreeMap<Vec<u8>, usize>,
     taken: Vec<bool>,
 }
 
@@ -48,13 +32,12 @@ impl Names {
     }
 
     /// Returns the number of the node that an identifier names.
-    fn number(&self, key: &Key) -> Option<usize>
+    fn number(&self, id: &[u8]) -> Option<usize>
         ghost known: { Known }
         requires names { HasNames known.names known.nodes self.now }
-        requires digest { key.now.0 ≡ digest key.now.1.items }
-        ensures { result ≡ position (is_named key.now.1.items) known.names }
+        ensures { result ≡ position (is_named id.now) known.names }
     {
-        self.numbers.get(key).copied()
+        self.numbers.get(id).copied()
     }
 
     /// Returns whether a node is a message's.
@@ -77,15 +60,15 @@ impl Names {
     }
 
     /// Numbers a node with an identifier that names none.
-    fn insert(&mut self, key: Key) -> Result<usize, AllocError>
+    fn insert(&mut self, alloc: Global, id: &[u8]) -> Result<usize, AllocError>
         ghost known: { Known }
         requires names { HasNames known.names known.nodes self.old }
-        requires digest { key.0 ≡ digest key.1.items }
-        requires absent { position (is_named key.1.items) known.names ≡ None }
-        ensures names { OnOk result (HasNames (known.names ++ Some key.1.items ∷ []) known.nodes self.new) }
+        requires absent { position (is_named id.now) known.names ≡ None }
+        ensures names { OnOk result (HasNames (known.names ++ Some id.now ∷ []) known.nodes self.new) }
         ensures number { IfOk result (λ number. number ≡ length known.names) }
         ensures inside { IfOk result (λ number. number < length self.new.taken.items) }
     {
+        let key = Vec::from_slice(alloc, id)?;
         let number = self.taken.len();
         self.numbers.insert(key, number)?;
         self.taken.push(false)?;
@@ -99,10 +82,9 @@ impl Names {
         ensures names { OnOk result (HasNames (add_id known.names id.now) known.nodes self.new) }
         ensures number { IfOk result (λ number. number ≡ number_of (add_id known.names id.now) id.now) }
     {
-        let key = key_of(alloc, id)?;
-        match self.number(&key) {
+        match self.number(id) {
             Some(number) => Ok(number),
-            None => self.insert(key),
+            None => self.insert(alloc, id),
         }
     }
 
@@ -138,11 +120,10 @@ impl Names {
         ensures number { IfOk result (λ number. number ≡ number_for known.names (own_name known.names known.nodes (Some id.now))) }
         ensures inside { IfOk result (λ number. number < length self.new.taken.items) }
     {
-        let key = key_of(alloc, id)?;
-        match self.number(&key) {
+        match self.number(id) {
             Some(number) if self.is_taken(number) => self.add_own(),
             Some(number) => Ok(number),
-            None => self.insert(key),
+            None => self.insert(alloc, id),
         }
     }
 
