@@ -7,7 +7,7 @@ use std::alloc::{AllocError, Global};
 
 const READ_BYTES: usize = 20_000_000;
 
-/// A caller that sends the bytes of a request, of which a call receives at most a number. It tells nothing.
+/// A caller that sends the bytes of a request. A call receives at most `piece` of them. It tells nothing.
 #[derive(Drop)]
 struct Sender<'a> {
     left: &'a [u8],
