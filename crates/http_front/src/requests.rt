@@ -13,9 +13,8 @@ ghost use Rattle.http_front.specs.Requests.{AnswersHeard, AsksAs};
 use crate::AskFault;
 use crate::faults::{head_fault, route_fault};
 use crate::receiving::{receive_body, receive_head};
-use http_heads::{Head, HeadField, SPANS, body_len, parts_of};
+use http_heads::{Head, HeadField, body_len, parts_of};
 use http_routes::{ask_of, cookie_in};
-use httparse::spans::EMPTY_HEADER_SPAN;
 use mail_values::Text;
 use site_asks::Ask;
 use site_io::Caller;
@@ -35,10 +34,10 @@ pub fn read_ask<C: Caller>(
     ensures keeps_sent { Keeps (C.sent caller.old) (C.sent caller.new) }
     ensures cause { IsCaused (C.faults caller.old) (C.faults caller.new) result }
 {
-    let mut spans = vec![in alloc; EMPTY_HEADER_SPAN; SPANS]?;
+    let mut spans = Vec::new(alloc);
     let mut room = [0u8; 4096];
     let mut bytes = Vec::new(alloc);
-    let head = receive_head(caller, &mut bytes, &mut spans, &mut room)?;
+    let head = receive_head(alloc, caller, &mut bytes, &mut spans, &mut room)?;
     let parts = parts_of(alloc, &bytes, &head, &spans)?;
     answer(alloc, caller, &bytes, &parts, form, &mut room)
 }

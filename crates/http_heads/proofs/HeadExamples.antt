@@ -1,5 +1,5 @@
 -- Heads and the lengths of their bodies, worked out by hand.
-use Rattle.std.proofs.Common.{◌≡◌, ℕ, List, [], ◌∷◌, refl, Ok, Err}
+use Rattle.std.proofs.Common.{◌≡◌, [], ◌∷◌, refl, Ok, Err}
 use Rattle.std.specs.Prelude.{codes}
 use Rattle.httparse.specs.Grammar.{is_token_byte}
 use Rattle.http_heads.specs.Framing.{body_len, length_of}

@@ -1,6 +1,6 @@
 -- Heads that are too long for the spans, and what a reader of heads returns.
-use Rattle.std.proofs.Common.{◌≡◌, ℕ, ◌+◌, ◌*◌, ◌≤◌, List, [], ◌∷◌, ◌++◌, length, ap, arith, append-nil, length-append, inl, inr, ◌≢◌}
-use Rattle.std.specs.Prelude.{All}
+use Rattle.std.proofs.Common.{◌≡◌, ℕ, ◌+◌, ◌*◌, ◌<◌, ◌≤◌, List, [], ◌∷◌, ◌++◌, length, ap, arith, append-nil, length-append, inl, inr, ◌≢◌}
+use Rattle.std.specs.Prelude.{All, IfOk, Result, Ok, Err}
 use Rattle.std.specs.List.{flat_map}
 use Rattle.std.proofs.lemmas.List.Elements.{All-head, All-tail}
 use Rattle.httparse.specs.Grammar.{LineEnd, crlf, lf, print_end, Field, IsField, print_field, print_request, HasNoRequest, NeverHasRequest, MayBecomeRequest}
@@ -21,7 +21,7 @@ still_open bytes (inr ends) bad = bad.1 ends
 pub none_now : (bytes : List ℕ) → NeverHasRequest bytes → HasNoRequest bytes
 none_now bytes never h rest reads = never [] h rest (rw append-nil reads)
 
--- ---- a head of at most 16,384 bytes has at most 5,461 fields
+-- ---- a head has at least three bytes for each field, and three more
 
 end_long : (end : LineEnd) → 1 ≤ length (print_end end)
 end_long crlf = omega arith
@@ -47,13 +47,18 @@ exceeds_long room bytes (front, rest, is, h, reads, more) =
     omega (arith, lines, last, lens, whole, more)
 
 -- an error is never for want of spans
-pub never : (bytes : List ℕ) (room : ℕ) (e : Error) → room ≡ 5461 → length bytes ≤ 16384
+pub never : (bytes : List ℕ) (room : ℕ) (e : Error) → length bytes < 3 * room + 3
     → (e ≢ TooManyHeaders → NeverHasRequest bytes) → (e ≡ TooManyHeaders → RequestExceeds room bytes) → NeverHasRequest bytes
-never bytes room e is short invalid too_many =
-    invalid (λ same. let long = exceeds_long room bytes (too_many same) in absurd (omega (arith, long, is, short)))
+never bytes room e short invalid too_many =
+    invalid (λ same. let long = exceeds_long room bytes (too_many same) in absurd (omega (arith, long, short)))
 
 -- what a parser returns, a scan may return
-pub scans_as : (bytes : List ℕ) (spans : List HeaderSpan) (heard : Heard) → HearsAs bytes spans heard → ScansAs bytes spans heard
+scans_as : (bytes : List ℕ) (spans : List HeaderSpan) (heard : Heard) → HearsAs bytes spans heard → ScansAs bytes spans heard
 scans_as bytes spans (Finished head) hears = hears
 scans_as bytes spans More hears = hears.0
 scans_as bytes spans NotHttp hears = hears
+
+-- what a parser returns if memory is there, a scan may return
+pub scans_if_ok : {E : Type 0} → (bytes : List ℕ) (spans : List HeaderSpan) (r : Result Heard E) → IfOk r (HearsAs bytes spans) → IfOk r (ScansAs bytes spans)
+scans_if_ok bytes spans (Ok heard) hears = scans_as bytes spans heard hears
+scans_if_ok bytes spans (Err e) hears = hears

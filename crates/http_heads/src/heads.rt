@@ -1,5 +1,5 @@
 //! Heads of requests.
-ghost use Rattle.std.specs.Prelude.{◌≡◌, ◌≤◌, All, IfOk, length, map};
+ghost use Rattle.std.specs.Prelude.{◌≡◌, ◌+◌, ◌*◌, ◌<◌, All, IfOk, length, map};
 ghost use Rattle.std.specs.Str.{IsUtf8};
 ghost use Rattle.httparse.specs.Grammar.{RequestHead};
 ghost use Rattle.httparse.specs.Spans.{IsHeaderWithin, IsRequestOf, IsRequestWithin, header_bytes};
@@ -8,11 +8,8 @@ ghost use Rattle.http_heads.specs.Places.{place_of};
 
 use crate::Place;
 use httparse::Status;
-use httparse::spans::{HeaderSpan, RequestSpans, parse_request};
+use httparse::spans::{EMPTY_HEADER_SPAN, HeaderSpan, RequestSpans, parse_request};
 use std::alloc::{AllocError, Global};
-
-/// The spans that a reader of heads is lent: a field has at least three bytes, so a head of 16,384 bytes never has more fields.
-pub const SPANS: usize = 5461;
 
 /// What the bytes of a request's head are so far.
 #[derive(Clone, Copy)]
@@ -42,10 +39,23 @@ pub struct Head<'b> {
     pub len: usize,
 }
 
-/// Reads the head that bytes begin with. `place` is where they end, and `spans` gets the places of the fields.
-pub fn read_head(bytes: &[u8], place: Place, spans: &mut [HeaderSpan]) -> Heard
-    requires short { length bytes.now ≤ 16384 }
-    requires room { length spans.old ≡ 5461 }
+/// Reads the head that bytes begin with. `place` is where they end, and `spans` becomes the places of the fields: a field has at least three
+/// bytes, so a third as many spans as bytes are enough.
+pub fn read_head(
+    alloc: Global,
+    bytes: &[u8],
+    place: Place,
+    spans: &mut Vec<HeaderSpan>,
+) -> Result<Heard, AllocError>
+    requires scanned { place ≡ place_of bytes.now }
+    ensures { IfOk result (λ heard. HearsAs bytes.now spans.new.items heard) }
+{
+    *spans = vec![in alloc; EMPTY_HEADER_SPAN; bytes.len() / 3]?;
+    Ok(parsed_head(bytes, place, spans))
+}
+
+fn parsed_head(bytes: &[u8], place: Place, spans: &mut [HeaderSpan]) -> Heard
+    requires room { length bytes.now < 3 * length spans.old + 3 }
     requires scanned { place ≡ place_of bytes.now }
     ensures { HearsAs bytes.now spans.new result }
 {
@@ -63,16 +73,19 @@ pub fn read_head(bytes: &[u8], place: Place, spans: &mut [HeaderSpan]) -> Heard
 }
 
 /// Returns what bytes are that end at `place`. They are parsed only if that is the end of a head.
-pub fn scanned_head(bytes: &[u8], place: Place, spans: &mut [HeaderSpan]) -> Heard
-    requires short { length bytes.now ≤ 16384 }
-    requires room { length spans.old ≡ 5461 }
+pub fn scanned_head(
+    alloc: Global,
+    bytes: &[u8],
+    place: Place,
+    spans: &mut Vec<HeaderSpan>,
+) -> Result<Heard, AllocError>
     requires scanned { place ≡ place_of bytes.now }
-    ensures { ScansAs bytes.now spans.new result }
+    ensures { IfOk result (λ heard. ScansAs bytes.now spans.new.items heard) }
 {
     match place {
-        Place::Whole => read_head(bytes, place, spans),
-        Place::Dead => Heard::NotHttp,
-        _ => Heard::More,
+        Place::Whole => read_head(alloc, bytes, place, spans),
+        Place::Dead => Ok(Heard::NotHttp),
+        _ => Ok(Heard::More),
     }
 }
 

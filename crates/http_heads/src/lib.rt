@@ -6,5 +6,5 @@ mod heads;
 mod places;
 
 pub use framing::{Found, HeadFault, body_len};
-pub use heads::{Head, HeadField, Heard, SPANS, parts_of, read_head, scanned_head};
+pub use heads::{Head, HeadField, Heard, parts_of, read_head, scanned_head};
 pub use places::Place;

@@ -4,8 +4,8 @@ use Rattle.http_front.proofs.requests.read_ask.Goals as goal
 
 pub returns-in_err-head-clause-answers : goal.returns-in_err-head-clause-answers
 returns-in_err-head-clause-answers g c =
-    let heard = head_refused _ _ c.receive_head.new.bytes.items c.receive_head.new.spans c.args.form c.in_err-head.field-0.0 c.receive_head.ensures.hears c.in_err-head.ensures.heard in
-    of_err (g.C.Caller.heard c.args.caller.now) (g.C.Caller.heard c.receive_head.new.caller) c.args.form c.from_residual-in_err-head.result c.in_err-head.field-0.0 c.from_residual-in_err-head.ensures.1 heard
+    let heard = head_refused _ _ c.receive_head.new.bytes.items c.receive_head.new.spans.items c.args.form c.in_err-head.field-0.0 c.receive_head.ensures.hears c.in_err-head.ensures.heard in
+    of_err (g.C.Caller.heard c.args.caller.now) (g.C.Caller.heard c.receive_head.new.caller) c.args.form c.from_residual.result c.in_err-head.field-0.0 c.from_residual.ensures.1 heard
 
 pub returns-clause-answers : goal.returns-clause-answers
 returns-clause-answers g c =
