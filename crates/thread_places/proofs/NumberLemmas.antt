@@ -160,6 +160,37 @@ place_inserted bytes names id key count m n same size before absent updates q =
     ∙ ap (λ k. cond (bytes_eq id q) (Some k) (position (is_named q) names)) size
     ∙ sym (new_place names id q absent)
 
+-- what a map has at the bytes of a key
+pub number_at : {K : Type 0} (bytes : K → List ℕ) (names : List Name) (id key : List ℕ) (m : BTreeMap K ℕ) (o : Option ℕ) → key ≡ id
+    → ((q : List ℕ) → tree.get_by (λ k. slice_cmp nat_cmp q (bytes k)) m ≡ position (is_named q) names)
+    → o ≡ tree.get_by (λ k. slice_cmp nat_cmp key (bytes k)) m → o ≡ position (is_named id) names
+number_at bytes names id key m o same before at = at ∙ before key ∙ ap (λ q. position (is_named q) names) same
+
+-- a number that was replaced, and given back
+pub place_restored : {K : Type 0} (bytes : K → List ℕ) (names : List Name) (id key again : List ℕ) (other number : ℕ) (m n o : BTreeMap K ℕ) → key ≡ id → again ≡ id
+    → ((q : List ℕ) → tree.get_by (λ k. slice_cmp nat_cmp q (bytes k)) m ≡ position (is_named q) names) → Some number ≡ position (is_named id) names
+    → tree.UpdatesBy (λ x y. slice_cmp nat_cmp (bytes x) (bytes y)) (λ k. slice_cmp nat_cmp key (bytes k)) m n (Some other)
+    → tree.UpdatesBy (λ x y. slice_cmp nat_cmp (bytes x) (bytes y)) (λ k. slice_cmp nat_cmp again (bytes k)) n o (Some number)
+    → (q : List ℕ) → tree.get_by (λ k. slice_cmp nat_cmp q (bytes k)) o ≡ position (is_named q) names
+place_restored bytes names id key again other number m n o same same_again before there replaced restored q =
+    updates_bytes bytes again n o (Some number) restored q
+    ∙ ap (λ k. cond (bytes_eq k q) (Some number) (tree.get_by (λ k. slice_cmp nat_cmp q (bytes k)) n)) same_again
+    ∙ ap (cond (bytes_eq id q) (Some number)) (updates_bytes bytes key m n (Some other) replaced q ∙ ap (λ k. cond (bytes_eq k q) (Some other) (tree.get_by (λ k. slice_cmp nat_cmp q (bytes k)) m)) same)
+    ∙ elim (cases_Bool (bytes_eq id q)) [
+      | inl is ↦ rw is (there ∙ ap (λ i. position (is_named i) names) ((bytes_eq-Decides id q).0 is))
+      | inr differs ↦ rw differs (before q)
+    ]
+
+pub same_names : (names : List Name) (nodes : List ℕ) (t u : Names) → HasNames names nodes t → u.taken.items ≡ t.taken.items
+    → ((id : List ℕ) → tree.get_by (λ k. slice_cmp nat_cmp id k.items) u.numbers ≡ position (is_named id) names) → HasNames names nodes u
+same_names names nodes t u has same numbers =
+    record {
+      count = ap length same ∙ has.count;
+      number = numbers;
+      taken = λ node less. ap (λ l. get_or l node false) same ∙ has.taken node less;
+      inside = has.inside;
+    }
+
 -- ---- the nodes that messages have
 
 pub not_among : (n : ℕ) (xs : List ℕ) → All (λ x. x < n) xs → is_among n xs ≡ false

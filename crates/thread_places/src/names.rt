@@ -88,6 +88,24 @@ impl Names {
         }
     }
 
+    /// Returns what `add_id` does, by one search if the identifier is new.
+    pub fn add_likely_id(&mut self, alloc: Global, id: &[u8]) -> Result<usize, AllocError>
+        ghost known: { Known }
+        requires names { HasNames known.names known.nodes self.old }
+        ensures names { OnOk result (HasNames (add_id known.names id.now) known.nodes self.new) }
+        ensures number { IfOk result (λ number. number ≡ number_of (add_id known.names id.now) id.now) }
+    {
+        let key = Vec::from_slice(alloc, id)?;
+        let number = self.taken.len();
+        if let Some(kept) = self.numbers.insert(key, number)? {
+            let again = Vec::from_slice(alloc, id)?;
+            let _ = self.numbers.insert(again, kept)?;
+            return Ok(kept);
+        }
+        self.taken.push(false)?;
+        Ok(number)
+    }
+
     /// Returns the number of a message's node: that which its identifier names, unless that is another message's.
     pub fn number_message(&mut self, alloc: Global, id: &Option<Bytes>) -> Result<usize, AllocError>
         ghost known: { Known }

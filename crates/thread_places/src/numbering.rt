@@ -30,6 +30,7 @@ impl Names {
         alloc: Global,
         references: &[Bytes],
         i: usize,
+        is_long: bool,
     ) -> Result<usize, AllocError>
         ghost known: { Known }
         requires names { HasNames known.names known.nodes self.old }
@@ -37,7 +38,13 @@ impl Names {
         ensures names { OnOk result (HasNames (add_id known.names (get_or references.now i [])) known.nodes self.new) }
         ensures number { IfOk result (λ number. number ≡ number_of (add_id known.names (get_or references.now i [])) (get_or references.now i [])) }
     {
-        self.add_id(alloc, references[i].as_slice())
+        let id = references[i].as_slice();
+        if is_long {
+            // Most identifiers of a long list are new.
+            self.add_likely_id(alloc, id)
+        } else {
+            self.add_id(alloc, id)
+        }
     }
 
     /// Returns the numbers of the nodes that identifiers name.
@@ -51,9 +58,10 @@ impl Names {
         ensures names { OnOk result (HasNames (number_ids known.names references.now).names known.nodes self.new) }
         ensures numbers { IfOk result (λ numbers. numbers.items ≡ (number_ids known.names references.now).numbers) }
     {
+        let is_long = references.len() > 1_000;
         let mut numbers = Vec::with_capacity(alloc, references.len())?;
         for i in 0..references.len() {
-            numbers.push(self.number_reference(alloc, references, i)?)?;
+            numbers.push(self.number_reference(alloc, references, i, is_long)?)?;
         }
         Ok(numbers)
     }
