@@ -1,27 +1,25 @@
 -- The pages that list messages are frame.
-use Rattle.std.proofs.Common.{◌≡◌, ℕ, true, List, [], ◌∷◌, ◌++◌, codes, decimal, refl, sym, ap, ◌∙◌, append_assoc, length, Option, Some, None}
+use Rattle.std.proofs.Common.{◌≡◌, ℕ, true, List, [], ◌∷◌, ◌++◌, codes, decimal, refl, ap, ◌∙◌, append_assoc, Option, Some, None}
 use Rattle.std.specs.List.{flat_map}
 use Rattle.std.specs.Map.{lookup}
 use Rattle.html_syntax.specs.Token.{Token}
 use Rattle.html_syntax.specs.Token.Token.{End}
 use Rattle.html_rules.specs.Tables.{Name, message_elements, frame_elements, is_element, frame_attributes, is_frame_attribute_name}
-use Rattle.html_rules.specs.Tokens.{start_tag}
 use Rattle.html_rules.specs.FrameTokens.{is_frame_token, is_frame, opens_mail}
 use Rattle.html_rules.proofs.Parts.{is_frame-append}
 use Rattle.header_words.specs.Fields.{Header, header_of}
 use Rattle.account_pictures.specs.declared.records.Address.{Address}
-use Rattle.imap_commands.specs.declared.uid_set.UidRange.{UidRange}
 use Rattle.mailbox_rows.specs.declared.row.Row.{Row}
 use Rattle.mailbox_rows.specs.Rows.{Rows, has_uid}
 use Rattle.message_dates.specs.Minutes.{minute_text}
 use Rattle.message_dates.specs.Sent.{sent_of}
 use Rattle.page_writer.specs.Writer.{Page}
-use Rattle.page_frames.specs.Elements.{text, line_end, link, with_tokens}
+use Rattle.page_frames.specs.Elements.{line_end, link, with_tokens}
 use Rattle.page_frames.specs.Paths.{show_address}
 use Rattle.page_frames.specs.Pages.{page_start, document_end, heading, framed}
 use Rattle.page_frames.proofs.Frame.{after_text, element_frame, link_frame, show_local, heading_frame, framed_frame}
 use Rattle.folder_pages.specs.Rows.{sender_of, subject_of, seen_class, depth_class, cell, subject_cell, number_cells, row_start, message_row}
-use Rattle.folder_pages.specs.Tables.{on_page, page_count, newest_first, found_first, list_row_of, list_row, thread_row_of, thread_row, table_start, pages_line, table_page, list_page, search_page, thread_page}
+use Rattle.folder_pages.specs.Tables.{page_count, list_row_of, list_row, thread_row_of, thread_row, table_start, pages_line, table_page}
 
 -- ---- rows
 
@@ -106,6 +104,11 @@ table_parts folder rows page items =
     simp append_assoc refl
 
 -- a page that was written in three parts
+pub three_parts : (p0 p1 p2 p3 : Page) (before items after : List Token) (o1 o2 o3 : List Name) → p0.written ≡ [] → p1 ≡ with_tokens p0 before o1 → p2 ≡ with_tokens p1 items o2 → p3 ≡ with_tokens p2 after o3 → p3.written ≡ (before ++ items) ++ after
+three_parts p0 p1 p2 p3 before items after o1 o2 o3 none one two three =
+    ap (λ (p : Page). p.written) three
+    ∙ ap (λ (ts : List Token). ts ++ after) (ap (λ (p : Page). p.written) two ∙ ap (λ (ts : List Token). ts ++ items) (ap (λ (p : Page). p.written) one ∙ ap (λ (ts : List Token). ts ++ before) none))
+
 pub written_frame : (p0 p1 p2 p3 : Page) (folder : List ℕ) (rows : List Token) (page items : ℕ) (o1 o2 o3 : List Name) → p0.written ≡ []
     → p1 ≡ with_tokens p0 (page_start folder true ++ heading folder ++ table_start ∷ []) o1 → p2 ≡ with_tokens p1 rows o2
     → p3 ≡ with_tokens p2 (End (codes "table") ∷ line_end ∷ pages_line page items ++ document_end) o3
@@ -113,7 +116,4 @@ pub written_frame : (p0 p1 p2 p3 : Page) (folder : List ℕ) (rows : List Token)
 written_frame p0 p1 p2 p3 folder rows page items o1 o2 o3 none one two three frame =
     let before : List Token = page_start folder true ++ heading folder ++ table_start ∷ [] in
     let after : List Token = End (codes "table") ∷ line_end ∷ pages_line page items ++ document_end in
-    let written : p3.written ≡ (before ++ rows) ++ after =
-    ap (λ (p : Page). p.written) three
-    ∙ ap (λ (ts : List Token). ts ++ after) (ap (λ (p : Page). p.written) two ∙ ap (λ (ts : List Token). ts ++ rows) (ap (λ (p : Page). p.written) one ∙ ap (λ (ts : List Token). ts ++ before) none)) in
-    ap is_frame (written ∙ table_parts folder rows page items) ∙ frame
+    ap is_frame (three_parts p0 p1 p2 p3 before rows after o1 o2 o3 none one two three ∙ table_parts folder rows page items) ∙ frame

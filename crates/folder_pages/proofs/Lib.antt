@@ -1,2 +1,4 @@
 pub mod Frame
 pub mod Lists
+pub mod FolderFrame
+pub mod Sorting

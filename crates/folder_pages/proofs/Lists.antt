@@ -1,11 +1,11 @@
 -- Pages of a list, and a map's keys from the last.
-use Rattle.std.proofs.Common.{◌≡◌, ℕ, ◌+◌, ◌-◌, ◌≤◌, ◌<◌, inl, inr, List, [], ◌∷◌, ◌++◌, length, take, drop, refl, sym, ap, ◌∙◌, subst, arith, Option, Some, None, length-drop}
-use Rattle.std.specs.Prelude.{min, reverse}
+use Rattle.std.proofs.Common.{◌≡◌, ℕ, ◌+◌, ◌-◌, ◌≤◌, inl, inr, List, [], ◌∷◌, length, take, drop, refl, sym, ap, ◌∙◌, subst, arith, None, length-drop}
+use Rattle.std.specs.Prelude.{min, reverse, zero, suc}
+use Rattle.std.specs.List.{slice_get}
 use Rattle.std.proofs.lemmas.Bool.{cases_lt}
 use Rattle.std.proofs.lemmas.List.{take_all, drop_all, reverse-append}
 use Rattle.std.proofs.lemmas.Iterator.{YieldsList}
 use Rattle.std.proofs.lemmas.Iterator.Consumers.{YieldsList-from_shown}
-use Rattle.std.specs.Borrow.{Bor}
 use Rattle.std.specs.Iterator.Adapters.{rev_source, rev_steps}
 use Rattle.std.specs.Map.Iter.{TakesLast, deref}
 
@@ -26,6 +26,11 @@ slice_of_page xs n k start end s e =
           let at : length xs ≤ start = omega (arith, s, past) in
           rw (drop_all start xs at, drop_all n xs past) (take_all (end - start) [] (omega arith) ∙ sym (take_all k [] (omega arith)))
     ]
+
+pub none_past : {X : Type 0} (xs : List X) (i : ℕ) → length xs ≤ i → slice_get xs i ≡ None
+none_past [] i past = refl
+none_past (x ∷ xs) zero past = absurd (omega arith)
+none_past (x ∷ xs) (suc i) past = none_past xs i (omega arith)
 
 -- a map's keys from the last
 pub keys_from_last : (s : _) (keys : List ℕ) → rev_source s ≡ keys → YieldsList (rev_steps (TakesLast (deref {X = ℕ}))) (λ x. x.now) s (reverse keys)

@@ -59,11 +59,7 @@ fn newest_uids(alloc: Global, rows: &BTreeMap<u32, Row>, page: u32) -> Result<Ve
 }
 
 /// Returns the UIDs of the messages that are in a set, the newest first.
-fn found_uids(
-    alloc: Global,
-    rows: &BTreeMap<u32, Row>,
-    found: &UidSet,
-) -> Result<Vec<u32>, Memory>
+fn found_uids(alloc: Global, rows: &BTreeMap<u32, Row>, found: &UidSet) -> Result<Vec<u32>, Memory>
     ensures { IfOk result (λ uids. uids.items ≡ found_first found.now rows.now.entries) }
 {
     rows.keys()
@@ -162,12 +158,7 @@ fn pages_text(alloc: Global, page: u32, items: usize) -> Result<String, Memory>
 }
 
 #[tactic(auto, unfolding(page_writer::specs::Writing::literals, crate::specs::Tables::pages_line))]
-fn write_pages_line(
-    alloc: Global,
-    out: &mut PageOut,
-    page: u32,
-    items: usize,
-) -> Result<(), Memory>
+fn write_pages_line(alloc: Global, out: &mut PageOut, page: u32, items: usize) -> Result<(), Memory>
     requires takes { IsTrue (takes_tags out.old.opened) }
     requires fits { items < 2 ^ 63 }
     ensures { OnOk result (out.new ≡ with_tokens out.old (pages_line page items) out.old.opened) }
@@ -239,7 +230,15 @@ pub fn list_page(
     ensures is_safe { OnOk result (IsFramePage (list_page folder.now validity rows.now.entries page)) }
 {
     let uids = newest_uids(alloc, rows, page)?;
-    uids_page(alloc, folder.as_str(), validity, rows, &uids, page, rows.len())
+    uids_page(
+        alloc,
+        folder.as_str(),
+        validity,
+        rows,
+        &uids,
+        page,
+        rows.len(),
+    )
 }
 
 /// Returns the page of the messages of a folder that a search found, 50 messages a page, the newest first.
@@ -259,7 +258,15 @@ pub fn search_page(
 {
     let uids = found_uids(alloc, rows, found)?;
     let shown = on_page(&uids, page);
-    uids_page(alloc, folder.as_str(), validity, rows, shown, page, uids.len())
+    uids_page(
+        alloc,
+        folder.as_str(),
+        validity,
+        rows,
+        shown,
+        page,
+        uids.len(),
+    )
 }
 
 /// Returns the page of a folder's threads, 50 messages a page, in the order of `flat`: the UID and the depth of each message.

@@ -1,4 +1,4 @@
-use Rattle.std.proofs.Common.{◌≡◌, ◌∙◌, ◌*◌, ◌-◌}
+use Rattle.std.proofs.Common.{◌∙◌, ◌*◌, ◌-◌}
 use Rattle.std.proofs.lemmas.Iterator.{YieldsList-from_take, items_from_collect}
 use Rattle.std.proofs.lemmas.Iterator.Adapters.{YieldsList-from_skip}
 use Rattle.std.proofs.lemmas.Iterator.Consumers.{YieldsList-at, YieldsList-from_copied}

@@ -1,6 +1,5 @@
-use Rattle.std.proofs.Common.{length}
 use Rattle.std.specs.List.{flat_map}
-use Rattle.folder_pages.specs.Tables.{on_page, list_row}
+use Rattle.folder_pages.specs.Tables.{list_row}
 use Rattle.folder_pages.proofs.Frame.{written_frame, list_frame}
 use Rattle.folder_pages.proofs.tables.uids_page.Goals as goal
 
