@@ -1,0 +1,10 @@
+//! The pages that list folders and messages.
+#![tactic(auto)]
+
+mod folders;
+mod rows;
+mod tables;
+
+pub use folders::folder_page;
+pub use page_writer::{Memory, PageBytes};
+pub use tables::{list_page, search_page, thread_page};
