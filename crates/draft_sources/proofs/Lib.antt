@@ -1,0 +1,3 @@
+mod Examples
+pub mod Ids
+pub mod Restoring

@@ -1,0 +1,4 @@
+pub mod Lines
+pub mod Refs
+pub mod Drafts
+pub mod Restored

@@ -1,0 +1,4 @@
+mod Examples
+pub mod Free
+pub mod Frame
+pub mod Written

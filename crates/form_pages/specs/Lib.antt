@@ -1,0 +1,3 @@
+pub mod Compose
+pub mod Identities
+pub mod Others
