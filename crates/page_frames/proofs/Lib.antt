@@ -1,0 +1,4 @@
+pub mod Safe
+pub mod Frame
+pub mod Law
+pub mod Examples

@@ -1,0 +1,4 @@
+pub mod Elements
+pub mod Paths
+pub mod Forms
+pub mod Pages
