@@ -1,5 +1,5 @@
 -- The page of a message is allowed, and loads nothing else.
-use Rattle.std.proofs.Common.{◌≡◌, ℕ, Bool, true, false, if◌then◌else◌, inr, List, [], ◌∷◌, ◌++◌, codes, inl, refl, sym, ap, ◌∙◌, append_assoc, Option, Some, None, length, decimal}
+use Rattle.std.proofs.Common.{◌≡◌, ℕ, Bool, true, false, if◌then◌else◌, inr, List, [], ◌∷◌, ◌++◌, codes, inl, refl, sym, ap, subst, ◌∙◌, append_assoc, Option, Some, None, length, decimal}
 use Rattle.std.proofs.lemmas.Bool.{cases_Bool}
 use Rattle.std.specs.List.{list_all}
 use Rattle.std.specs.Str.{chars}
@@ -89,10 +89,13 @@ head_frame fields in_session =
 
 -- ---- the list of parts
 
--- a link to a part leads to the address that all pages have for it
-part_address_local : (at : Address) (section : List ℕ) → IsLocal (part_address (place_at at) section)
+-- a link to a part, and a picture that is a part, have the address that all pages have for it
+same_address : (at : Address) (section : List ℕ) → part_address (place_at at) section ≡ frame_part_address at section
 unfolding place_at frame_part_address
-part_address_local at section = part_local at section
+same_address at section = refl
+
+part_address_local : (at : Address) (section : List ℕ) → IsLocal (part_address (place_at at) section)
+part_address_local at section = subst (λ (address : List ℕ). IsLocal address) (sym (same_address at section)) (part_local at section)
 
 part_link_frame : (at : Address) (section : List ℕ) → is_frame (part_link (place_at at) section) ≡ true
 unfolding part_link
