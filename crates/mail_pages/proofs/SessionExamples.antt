@@ -1,5 +1,5 @@
 -- The page of a message in a session, computed, as it is written.
-use Rattle.std.proofs.Common.{◌≡◌, ℕ, Bool, true, false, List, [], ◌∷◌, ◌++◌, codes, refl}
+use Rattle.std.proofs.Common.{◌≡◌, ℕ, true, false, List, [], ◌∷◌, ◌++◌, codes, refl}
 use Rattle.std.specs.Prelude.{Some, None}
 use lib.Utf8.{encode}
 use Rattle.std.specs.Str.{is_utf8, chars}
@@ -13,7 +13,6 @@ use Rattle.html_syntax.specs.Tokenizer.{look, look_again, step, tokens_at_end, r
 use Rattle.html_rules.specs.Tables.{message_void_elements, frame_void_elements, is_void, message_elements, is_message_element, dropped_elements, is_dropped_element, common_attributes, attribute_rows, is_listed_attribute, kind_of, value_kind_rows}
 use Rattle.html_rules.specs.Values.{is_remote, is_link}
 use Rattle.page_writer.specs.Page.{spell}
-use Rattle.account_pictures.specs.declared.records.Address.{Address}
 use Rattle.transfer_codings.specs.Quoted.{quoted_bytes, line_bytes, without_blanks, unescaped}
 use Rattle.header_words.specs.EncodedWords.{with_words_decoded, items_from, joined, word_at, word_text}
 use Rattle.header_words.specs.Fields.{header_of}
