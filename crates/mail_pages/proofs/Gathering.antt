@@ -14,7 +14,7 @@ use Rattle.std.specs.Result.{OnOk}
 use Rattle.std.specs.declared.result.Result.{Result}
 use Rattle.std.specs.declared.result.Result.TheVariants.{Ok, Err}
 use Rattle.html_rules.specs.Tables.{Name}
-use Rattle.mail_pages.specs.Frame.{text, with_tokens}
+use Rattle.page_frames.specs.Elements.{text, with_tokens}
 use Rattle.mail_pages.specs.Text.{is_carriage_return, with_line_feeds}
 use Rattle.mail_pages.proofs.LineFeeds.{line_feeds-clean, line_feeds-nil}
 use Rattle.mail_pages.specs.Gathered.{GathersText}

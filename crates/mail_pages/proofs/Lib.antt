@@ -4,5 +4,7 @@ pub mod Quotes
 pub mod QuoteSteps
 pub mod Safe
 pub mod Washed
+pub mod Offers
 pub mod Examples
 pub mod MailExamples
+pub mod SessionExamples

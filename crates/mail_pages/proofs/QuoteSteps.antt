@@ -8,7 +8,7 @@ use Rattle.html_rules.specs.Tables.{Name, is_text_only, text_only_elements}
 use Rattle.page_writer.specs.Page.{takes_tags}
 use Rattle.page_writer.specs.Writer.{Page, with_token, innermost}
 use Rattle.flowed_text.specs.declared.Para.{Para}
-use Rattle.mail_pages.specs.Frame.{with_tokens}
+use Rattle.page_frames.specs.Elements.{with_tokens}
 use Rattle.mail_pages.specs.Flowed.{AreQuotes, quote, shown_depth, opened_quotes, closed_quotes, change_depth, para_element, paras_after, flowed_paras}
 use Rattle.mail_pages.proofs.Quotes.{closed_and_kept, opened_and_kept}
 

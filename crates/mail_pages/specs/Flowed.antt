@@ -5,7 +5,7 @@ use Rattle.html_syntax.specs.Token.Token.{End}
 use Rattle.html_rules.specs.Tables.{Name}
 use Rattle.html_rules.specs.Tokens.{start_tag}
 use Rattle.flowed_text.specs.declared.Para.{Para}
-use Rattle.mail_pages.specs.Frame.{text}
+use Rattle.page_frames.specs.Elements.{text}
 
 abbrev pub quote : Name
 quote = codes "blockquote"

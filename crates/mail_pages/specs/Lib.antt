@@ -1,6 +1,10 @@
+pub mod Place
 pub mod Text
 pub mod Gathered
-pub mod Frame
+pub mod Head
+pub mod Parts
 pub mod Flowed
 pub mod Mail
+pub mod Offer
+pub mod Actions
 pub mod ShowPage

@@ -19,7 +19,7 @@ use Rattle.html_wash.specs.Wash.{wash}
 use Rattle.flowed_text.specs.Paragraphs.{paras_of}
 use Rattle.mail_pages.specs.Text.{with_line_feeds}
 use Rattle.mail_pages.specs.Flowed.{flowed_paras}
-use Rattle.mail_pages.specs.Frame.{text, element, line_end}
+use Rattle.page_frames.specs.Elements.{text, element, line_end}
 
 -- ---- which part
 
@@ -58,17 +58,13 @@ plain_text content = start_tag (codes "pre") ∷ line_end ∷ text content ++ En
 unfoldable pub flowed_tokens : Bool → PartValue → List Token
 flowed_tokens del_sp p = flowed_paras (paras_of (decoded_text p) del_sp)
 
--- where the site has the parts of the message
-abbrev pub site_place : Place
-site_place = record { prefix = codes "/part/0/0/"; suffix = codes "?f=" }
-
 -- what the addresses in an HTML part refer to: its Content-Location is their base
 abbrev pub references_in : List PartValue → PartValue → ReferencesValue
 references_in parts p = record { parts = located_parts parts; base = base_of p.location }
 
--- HTML: the washed tokens of its text
-unfoldable pub washed_html : List PartValue → Bool → PartValue → List Token
-washed_html parts images p = wash (given_of (references_in parts p) site_place images) (tokens (chars (decoded_text p)))
+-- HTML: the washed tokens of its text; the site has the message's parts at `place`
+unfoldable pub washed_html : Place → List PartValue → Bool → PartValue → List Token
+washed_html place parts images p = wash (given_of (references_in parts p) place images) (tokens (chars (decoded_text p)))
 
 -- a paragraph in place of a text
 unfoldable pub paragraph : List ℕ → List Token
@@ -89,19 +85,19 @@ abbrev pub unread_part : Option PartValue → List Token
 unread_part (Some p) = paragraph (unread_words p)
 unread_part None = []
 
-abbrev pub html_part : List PartValue → Bool → Option PartValue → List Token
-html_part parts images (Some p) = washed_html parts images p
-html_part parts images None = []
+abbrev pub html_part : Place → List PartValue → Bool → Option PartValue → List Token
+html_part place parts images (Some p) = washed_html place parts images p
+html_part place parts images None = []
 
 -- the tokens of what is shown; `images` tells whether remote pictures were requested
-unfoldable pub mail_of : List PartValue → Bool → Shown → List Token
-mail_of parts images (Plain section) = plain_part (part_at section parts)
-mail_of parts images (Unread section) = unread_part (part_at section parts)
-mail_of parts images Nothing = paragraph (codes "No text to show.")
-mail_of parts images (Flowed section del_sp) = flowed_part del_sp (part_at section parts)
-mail_of parts images (Html section) = html_part parts images (part_at section parts)
+unfoldable pub mail_of : Place → List PartValue → Bool → Shown → List Token
+mail_of place parts images (Plain section) = plain_part (part_at section parts)
+mail_of place parts images (Unread section) = unread_part (part_at section parts)
+mail_of place parts images Nothing = paragraph (codes "No text to show.")
+mail_of place parts images (Flowed section del_sp) = flowed_part del_sp (part_at section parts)
+mail_of place parts images (Html section) = html_part place parts images (part_at section parts)
 
 -- no tokens if nothing is shown
-abbrev pub mail_or_none : List PartValue → Bool → Option Shown → List Token
-mail_or_none parts images (Some shown) = mail_of parts images shown
-mail_or_none parts images None = []
+abbrev pub mail_or_none : Place → List PartValue → Bool → Option Shown → List Token
+mail_or_none place parts images (Some shown) = mail_of place parts images shown
+mail_or_none place parts images None = []

@@ -2,14 +2,14 @@
 ghost use Rattle.std.specs.Prelude.{◌≡◌, ◌++◌, drop, replicate, OnOk, IsTrue};
 ghost use Rattle.page_writer.specs.Page.{takes_tags};
 ghost use Rattle.flowed_text.specs.Paragraphs.{paras_of};
-ghost use Rattle.mail_pages.specs.Frame.{with_tokens};
+ghost use Rattle.page_frames.specs.Elements.{with_tokens};
 ghost use Rattle.mail_pages.specs.Mail.{flowed_tokens};
 ghost use Rattle.mail_pages.specs.Flowed.{AreQuotes, change_depth, closed_quotes, flowed_paras, opened_quotes, para_element, quote, shown_depth, text_or_break};
 
-use crate::elements::open;
 use crate::html::decoded_text;
 use flowed_text::{Para, Paras};
 use mime_tree::Part;
+use page_frames::open;
 use page_writer::{Memory, PageOut};
 use std::alloc::Global;
 

@@ -1,13 +1,14 @@
 //! The HTML of a part, washed.
 ghost use Rattle.std.specs.Prelude.{◌≡◌, IfOk, OnOk, IsTrue, string_bytes};
 ghost use Rattle.page_writer.specs.Page.{takes_tags};
-ghost use Rattle.mail_pages.specs.Frame.{with_tokens};
-ghost use Rattle.mail_pages.specs.Mail.{decoded_text, site_place, washed_html};
+ghost use Rattle.page_frames.specs.Elements.{with_tokens};
+ghost use Rattle.mail_pages.specs.Mail.{decoded_text, washed_html};
+ghost use Rattle.mail_pages.specs.Offer.{html_has_images};
 
 use html_wash::wash;
-use mail_values::Text;
 use mime_tree::{Coding, Part, Tree};
 use page_writer::{Memory, PageOut};
+use remote_images::has_remote_images;
 use std::alloc::Global;
 use transfer_codings::{Charset, charset_of, decode, text_of};
 use wash_attributes::Place;
@@ -17,15 +18,24 @@ pub fn write_html(
     alloc: Global,
     out: &mut PageOut,
     tree: &Tree<'_>,
+    place: &Place,
     images: bool,
     part: &Part<'_>,
 ) -> Result<(), Memory>
     requires { IsTrue (takes_tags out.old.opened) }
-    ensures { OnOk result (out.new ≡ with_tokens out.old (washed_html tree.now.parts images part.now) out.old.opened) }
+    ensures { OnOk result (out.new ≡ with_tokens out.old (washed_html place.now tree.now.parts images part.now) out.old.opened) }
 {
     let html = decoded_text(alloc, part)?;
-    let place = site_place(alloc)?;
-    wash(alloc, &html, tree, part.location(), &place, images, out)
+    wash(alloc, &html, tree, part.location(), place, images, out)
+}
+
+/// Whether the HTML of a part has a remote picture.
+#[tactic(auto, unfolding(crate::specs::Offer::html_has_images))]
+pub fn html_has_images(alloc: Global, tree: &Tree<'_>, part: &Part<'_>) -> Result<bool, Memory>
+    ensures { IfOk result (λ found. found ≡ html_has_images tree.now.parts part.now) }
+{
+    let html = decoded_text(alloc, part)?;
+    has_remote_images(alloc, &html, tree, part.location())
 }
 
 /// The text of a part: decoded by its coding and its charset. Bytes of no coding are read in place.
@@ -40,14 +50,4 @@ pub fn decoded_text(alloc: Global, part: &Part<'_>) -> Result<String, Memory>
             text_of(alloc, charset, &bytes)
         }
     }
-}
-
-/// Where the site has the parts of the message.
-fn site_place(alloc: Global) -> Result<Place, Memory>
-    ensures { IfOk result (λ place. place ≡ site_place) }
-{
-    Ok(Place {
-        prefix: Text::from_string(String::from_str(alloc, "/part/0/0/")?),
-        suffix: Text::from_string(String::from_str(alloc, "?f=")?),
-    })
 }

@@ -1,17 +1,18 @@
 //! The displayed part of a message.
 ghost use Rattle.std.specs.Prelude.{◌≡◌, ◌++◌, codes, IfOk, OnOk, IsTrue, false, string_bytes};
 ghost use Rattle.page_writer.specs.Page.{takes_tags};
-ghost use Rattle.mail_pages.specs.Frame.{with_tokens, text};
+ghost use Rattle.page_frames.specs.Elements.{with_tokens, text};
 ghost use Rattle.mail_pages.specs.Mail.{shown_if_requested, is_text_part, text_shown_as, choice, plain_text, text_of_part, unread_words, paragraph, mail_of};
 
-use crate::elements::{open, write_element};
 use crate::flowed::write_flowed;
 use crate::html::write_html;
 use crate::text::write_body;
 use mime_tree::{Coding, Part, Section, Shown, Tree, best, part, shown_as};
+use page_frames::{open, write_element};
 use page_writer::{Memory, PageOut};
 use std::alloc::Global;
 use transfer_codings::{Charset, charset_of, decode};
+use wash_attributes::Place;
 
 /// Chooses what is shown: the text of a section if one was requested, else the best part. `None` means that no text has that
 /// section.
@@ -58,11 +59,12 @@ pub fn write_mail(
     alloc: Global,
     out: &mut PageOut,
     tree: &Tree<'_>,
+    place: &Place,
     images: bool,
     shown: &Shown,
 ) -> Result<(), Memory>
     requires { IsTrue (takes_tags out.old.opened) }
-    ensures { OnOk result (out.new ≡ with_tokens out.old (mail_of tree.now.parts images shown.now) out.old.opened) }
+    ensures { OnOk result (out.new ≡ with_tokens out.old (mail_of place.now tree.now.parts images shown.now) out.old.opened) }
 {
     match shown {
         Shown::Plain(section) => match part(tree, section) {
@@ -75,7 +77,7 @@ pub fn write_mail(
         },
         Shown::Nothing => write_element(alloc, out, "p", "No text to show."),
         Shown::Html(section) => match part(tree, section) {
-            Some(part) => write_html(alloc, out, tree, images, part),
+            Some(part) => write_html(alloc, out, tree, place, images, part),
             None => Ok(()),
         },
         Shown::Flowed(section, del_sp) => match part(tree, section) {

@@ -4,7 +4,7 @@ ghost use Rattle.std.specs.List.{before_first, after_first, position_or_len};
 ghost use Rattle.mail_pages.specs.Text.{is_carriage_return, with_line_feeds, skip_line_feed};
 ghost use Rattle.std.specs.Str.Lossy.{utf8_lossy};
 ghost use Rattle.transfer_codings.specs.Charsets.{text_in};
-ghost use Rattle.mail_pages.specs.Frame.{with_tokens, text as text_tokens};
+ghost use Rattle.page_frames.specs.Elements.{with_tokens, text as text_tokens};
 ghost use Rattle.mail_pages.specs.Gathered.{GathersText};
 
 use memchr::memchr;

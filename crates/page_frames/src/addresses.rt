@@ -11,7 +11,7 @@ use std::alloc::Global;
 
 /// The query that names a folder.
 #[tactic(auto, unfolding(crate::specs::Paths::folder_query, form_urlencoded::specs::Form::byte_serialize))]
-fn folder_query(alloc: Global, folder: &str) -> Result<String, Memory>
+pub fn folder_query(alloc: Global, folder: &str) -> Result<String, Memory>
     ensures { IfOk result (λ query. string_bytes query ≡ folder_query folder.now) }
 {
     let mut fields = Serializer::new(String::new(alloc));
@@ -23,7 +23,7 @@ fn folder_query(alloc: Global, folder: &str) -> Result<String, Memory>
 
 /// The numbers of a message, as they are in a path.
 #[tactic(auto, unfolding(crate::specs::Paths::message_path))]
-fn message_path(alloc: Global, validity: u32, uid: u32) -> Result<String, Memory>
+pub fn message_path(alloc: Global, validity: u32, uid: u32) -> Result<String, Memory>
     ensures { IfOk result (λ path. string_bytes path ≡ message_path validity uid) }
 {
     let mut path = String::from_str(alloc, Buffer::new().format(validity))?;

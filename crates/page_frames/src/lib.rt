@@ -11,7 +11,8 @@ mod laws;
 mod pages;
 
 pub use addresses::{
-    images_address, list_address, part_address, show_address, show_address_of, shown_part_address,
+    folder_query, images_address, list_address, message_path, part_address, show_address,
+    show_address_of, shown_part_address,
 };
 pub use elements::{open, open_with, open_with_three, open_with_two, write_element, write_link};
 pub use forms::{

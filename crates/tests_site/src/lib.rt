@@ -8,4 +8,6 @@ mod html;
 #[cfg(test)]
 mod mails;
 #[cfg(test)]
+mod session;
+#[cfg(test)]
 mod show;

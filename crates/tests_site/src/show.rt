@@ -1,6 +1,6 @@
 //! Runs of `show`: its pages, faults and statuses.
 use mail_io::{Bytes, Memory, MemorySink, MemorySource};
-use mail_pages::show_page;
+use mail_pages::{Frame, show_page};
 use std::alloc::Global;
 use std::test::Fail;
 use webmail_runs::{
@@ -425,6 +425,6 @@ fn says_what_is_wrong(rt: HostRuntime) -> Result<(), Fail> {
     }
     let alloc = rt.alloc();
     let message = b"\nx".as_slice();
-    assert!(rt; show_page(alloc, message, &None, false).is_ok());
+    assert!(rt; show_page(alloc, message, &None, false, &Frame::Plain).is_ok());
     Ok(())
 }

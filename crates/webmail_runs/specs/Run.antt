@@ -3,6 +3,7 @@ use Rattle.std.specs.Prelude.{◌≡◌, ◌≢◌, ◌⊎◌, ℕ, Bool, true, 
 use Rattle.std.specs.Io.KnownBytes.{Appends}
 use Rattle.mail_values.specs.Section.{IsSection, spelling}
 use Rattle.mail_io.specs.Stream.{ReadsWhole, WritesSome}
+use Rattle.mail_pages.specs.declared.frame.Frame.TheVariants.{Plain}
 use Rattle.mail_pages.specs.ShowPage.{page_bytes, IsSafe, IsShown}
 use Rattle.webmail_runs.specs.Outcomes.{done, write_fault, no_such_part}
 
@@ -53,13 +54,13 @@ pub record ReadsRequest (words : List (List ℕ)) (left_old left_new : Option (L
 -- the message has a safe page, and the whole page was written
 pub record IsWritten (taken_old taken_new : Option (List ℕ)) (message : List ℕ) (part : Option (List ℕ)) (images : Bool) : Type 0 where
   pub shown : IsShown message part
-  pub written : Appends taken_old taken_new (page_bytes message part images)
-  pub safe : IsSafe message part images
+  pub written : Appends taken_old taken_new (page_bytes Plain message part images)
+  pub safe : IsSafe Plain message part images
 
 -- the message has a page, and a proper prefix of it was written
 pub record IsBegun (taken_old taken_new : Option (List ℕ)) (message : List ℕ) (part : Option (List ℕ)) (images : Bool) : Type 0 where
   pub shown : IsShown message part
-  pub written : WritesSome taken_old taken_new (page_bytes message part images)
+  pub written : WritesSome taken_old taken_new (page_bytes Plain message part images)
 
 -- if the source tells what it holds, no part of a message longer than the limit is shown
 abbrev pub RefusesLong : Option (List ℕ) → ℕ → Type 0

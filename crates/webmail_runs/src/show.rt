@@ -12,7 +12,7 @@ use crate::status::{
 };
 use crate::words::parse_words;
 use mail_io::{InputFault, Sink, Source, read_to_end};
-use mail_pages::{PageFault, Section, WRITE_ROOM, show_page, write_page};
+use mail_pages::{Frame, PageFault, Section, WRITE_ROOM, show_page, write_page};
 use std::alloc::Global;
 
 /// The greatest length of a message in bytes.
@@ -68,8 +68,8 @@ fn show<W: Sink>(
     sink: &mut W,
 ) -> Status
     ensures is_shown { result ≡ done.status → IsShown message.now part.now }
-    ensures writes_page { result ≡ done.status → Appends (W.taken sink.old) (W.taken sink.new) (page_bytes message.now part.now images) }
-    ensures is_safe { result ≡ done.status → IsSafe message.now part.now images }
+    ensures writes_page { result ≡ done.status → Appends (W.taken sink.old) (W.taken sink.new) (page_bytes Frame.Plain message.now part.now images) }
+    ensures is_safe { result ≡ done.status → IsSafe Frame.Plain message.now part.now images }
     ensures writes_prefix { result ≡ write_fault.status → IsBegun (W.taken sink.old) (W.taken sink.new) message.now part.now images }
     ensures only_if_missing { result ≡ no_such_part.status → IsMissing message.now part.now }
     ensures write_fault_has_cause { result ≡ write_fault.status → Rose (W.faults sink.old) (W.faults sink.new) }
@@ -77,7 +77,7 @@ fn show<W: Sink>(
     ensures writes_nothing_else { result ≢ done.status → result ≢ write_fault.status → Keeps (W.taken sink.old) (W.taken sink.new) }
     ensures is_listed { (result ≡ done.status) ⊎ (result ≡ write_fault.status) ⊎ (result ≡ out_of_memory.status) ⊎ (result ≡ no_such_part.status) }
 {
-    let page = match show_page(alloc, message, part, images) {
+    let page = match show_page(alloc, message, part, images, &Frame::Plain) {
         Ok(page) => page,
         Err(PageFault::NoSuchPart) => return NO_SUCH_PART,
         Err(PageFault::Memory) => return OUT_OF_MEMORY,

@@ -1,5 +1,5 @@
 use Rattle.std.proofs.Common.{◌≡◌, drop}
-use Rattle.mail_pages.specs.Frame.{with_tokens}
+use Rattle.page_frames.specs.Elements.{with_tokens}
 use Rattle.mail_pages.specs.Flowed.{closed_quotes}
 use Rattle.mail_pages.proofs.flowed.close_quotes.Given as goal
 

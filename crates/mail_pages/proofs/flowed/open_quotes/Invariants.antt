@@ -1,5 +1,5 @@
 use Rattle.std.proofs.Common.{◌≡◌, ◌++◌, replicate}
-use Rattle.mail_pages.specs.Frame.{with_tokens}
+use Rattle.page_frames.specs.Elements.{with_tokens}
 use Rattle.mail_pages.specs.Flowed.{opened_quotes, quote}
 use Rattle.mail_pages.proofs.flowed.open_quotes.Given as goal
 

@@ -1,6 +1,6 @@
 use Rattle.std.proofs.Common.{◌∙◌, ap}
 use Rattle.flowed_text.specs.Paragraphs.{paras_of}
-use Rattle.mail_pages.specs.Frame.{with_tokens}
+use Rattle.page_frames.specs.Elements.{with_tokens}
 use Rattle.mail_pages.specs.Flowed.{para_element}
 use Rattle.mail_pages.proofs.QuoteSteps.{may_write_para, para_quotes, para_written, first_left, paras_ended}
 use Rattle.mail_pages.proofs.flowed.write_paras.Goals as goal

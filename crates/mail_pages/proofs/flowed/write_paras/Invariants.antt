@@ -1,6 +1,6 @@
 use Rattle.std.proofs.Common.{◌≡◌, ◌++◌, replicate, length}
 use Rattle.flowed_text.specs.Paragraphs.{paras_of}
-use Rattle.mail_pages.specs.Frame.{with_tokens}
+use Rattle.page_frames.specs.Elements.{with_tokens}
 use Rattle.mail_pages.specs.Flowed.{flowed_paras, paras_after, quote}
 use Rattle.mail_pages.proofs.flowed.write_paras.Given as goal
 

@@ -1,7 +1,7 @@
 use Rattle.std.proofs.Common.{ap, sym, refl, ◌∙◌, ◌++◌, [], ◌∷◌, append_assoc, List, ℕ}
 use Rattle.std.specs.Prelude.{string_bytes}
 use Rattle.mail_pages.specs.Text.{with_line_feeds, skip_line_feed}
-use Rattle.mail_pages.specs.Frame.{text}
+use Rattle.page_frames.specs.Elements.{text}
 use Rattle.mail_pages.proofs.Gathering.{gathers-last}
 use Rattle.mail_pages.proofs.LineFeeds.{next_line}
 use Rattle.mail_pages.proofs.text.add_lines.Goals as goal

@@ -3,7 +3,7 @@ use denote.Text.{Utf8}
 use Rattle.std.proofs.Common.{◌≡◌, ◌++◌, List, ℕ, length}
 use Rattle.std.specs.Prelude.{string_bytes}
 use Rattle.mail_pages.specs.Text.{with_line_feeds}
-use Rattle.mail_pages.specs.Frame.{text}
+use Rattle.page_frames.specs.Elements.{text}
 use Rattle.mail_pages.proofs.text.add_lines.Given as goal
 
 abbrev pub invariant-loop-line : goal.invariant-loop-line

@@ -1,6 +1,6 @@
 use Rattle.std.proofs.Common.{◌≡◌, sym, subst, List, ℕ}
 use Rattle.mail_pages.proofs.LineFeeds.{line_feeds-clean}
-use Rattle.mail_pages.specs.Frame.{with_tokens, text}
+use Rattle.page_frames.specs.Elements.{with_tokens, text}
 use Rattle.std.specs.Prelude.{OnOk}
 use Rattle.mail_pages.proofs.text.write_lines.Goals as goal
 

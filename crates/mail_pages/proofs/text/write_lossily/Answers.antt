@@ -6,7 +6,7 @@ use Rattle.std.specs.Str.Lossy.{utf8_lossy, replacement_bytes}
 use Rattle.std.proofs.lemmas.List.{append-nil}
 use Rattle.std.proofs.lemmas.Str.{utf8_lossy_chunk, utf8_lossy_last_chunk, utf8_lossy_empty}
 use Rattle.mail_pages.specs.Text.{with_line_feeds}
-use Rattle.mail_pages.specs.Frame.{text}
+use Rattle.page_frames.specs.Elements.{text}
 use Rattle.mail_pages.proofs.Gathering.{gathers-all, gathers-two, gathers-from}
 use Rattle.mail_pages.proofs.LineFeeds.{line_feeds-replaced, line_feeds-nil}
 use Rattle.mail_pages.proofs.text.write_lossily.Goals as goal

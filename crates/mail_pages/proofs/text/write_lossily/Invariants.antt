@@ -3,7 +3,7 @@ use Rattle.std.specs.Prelude.{string_bytes}
 use Rattle.std.specs.Str.Chunks.{utf8_chunks_rest}
 use Rattle.std.specs.Str.Lossy.{utf8_lossy}
 use Rattle.mail_pages.specs.Text.{with_line_feeds}
-use Rattle.mail_pages.specs.Frame.{text}
+use Rattle.page_frames.specs.Elements.{text}
 use Rattle.mail_pages.proofs.text.write_lossily.Given as goal
 
 abbrev pub invariant-loop-chunk : goal.invariant-loop-chunk

@@ -2,7 +2,7 @@ use Rattle.std.proofs.Common.{ap, sym, ◌∙◌, ◌++◌, []}
 use Rattle.std.specs.Prelude.{string_bytes}
 use Rattle.std.proofs.lemmas.List.{append-nil}
 use Rattle.std.proofs.lemmas.Str.{IsUtf8-nil, IsUtf8-string_bytes}
-use Rattle.mail_pages.specs.Frame.{text}
+use Rattle.page_frames.specs.Elements.{text}
 use Rattle.mail_pages.proofs.Gathering.{gathers-more, gathers-written}
 use Rattle.mail_pages.proofs.text.write_many.Goals as goal
 

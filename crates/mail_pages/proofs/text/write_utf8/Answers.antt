@@ -1,7 +1,7 @@
 use Rattle.std.proofs.Common.{◌≡◌, subst, List, ℕ}
 use Rattle.std.specs.Prelude.{OnOk}
 use Rattle.mail_pages.specs.Text.{with_line_feeds}
-use Rattle.mail_pages.specs.Frame.{with_tokens, text}
+use Rattle.page_frames.specs.Elements.{with_tokens, text}
 use Rattle.mail_pages.proofs.LineFeeds.{lossy-valid}
 use Rattle.mail_pages.proofs.text.write_utf8.Goals as goal
 
