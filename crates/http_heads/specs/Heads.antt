@@ -1,5 +1,6 @@
 -- What the bytes of a request's head are so far (RFC 9112 §2 and §3, by the grammar of `httparse`).
-use Rattle.std.specs.Prelude.{◌≡◌, ℕ, ◌≤◌, List, length, drop, map}
+use Rattle.std.specs.Prelude.{◌≡◌, ◌==◌, ℕ, ◌≤◌, List, length, drop, map}
+use Rattle.std.specs.List.{count_by}
 use Rattle.httparse.specs.Grammar.{EndsInTarget, HasNoRequest, NeverHasRequest, ReadsRequest, RequestHead, print_request}
 use Rattle.httparse.specs.Spans.{IsRequestOf, IsRequestWithin, name_and_value}
 use Rattle.httparse.specs.declared.spans.HeaderSpan.{HeaderSpan}
@@ -11,6 +12,9 @@ use Rattle.http_heads.specs.declared.heads.Heard.TheVariants.{Finished, More, No
 -- the most bytes of a head
 abbrev pub head_limit : ℕ
 head_limit = 16384
+
+abbrev pub line_feeds : List ℕ → ℕ
+line_feeds bytes = count_by (λ b. b == 10) bytes
 
 -- no continuation of the bytes begins with a head, and they don't end within its target
 abbrev pub IsNotHttp : List ℕ → Type 0

@@ -1,9 +1,9 @@
 //! Heads of requests.
-ghost use Rattle.std.specs.Prelude.{◌≡◌, ◌+◌, ◌*◌, ◌<◌, All, IfOk, length, map};
+ghost use Rattle.std.specs.Prelude.{◌≡◌, ◌≤◌, All, IfOk, length, map};
 ghost use Rattle.std.specs.Str.{IsUtf8};
 ghost use Rattle.httparse.specs.Grammar.{RequestHead};
 ghost use Rattle.httparse.specs.Spans.{IsHeaderWithin, IsRequestOf, IsRequestWithin, header_bytes};
-ghost use Rattle.http_heads.specs.Heads.{HearsAs, IsHeadOf, ScansAs, fields_seen};
+ghost use Rattle.http_heads.specs.Heads.{HearsAs, IsHeadOf, ScansAs, fields_seen, line_feeds};
 ghost use Rattle.http_heads.specs.Places.{place_of};
 
 use crate::Place;
@@ -39,8 +39,21 @@ pub struct Head<'b> {
     pub len: usize,
 }
 
-/// Reads the head that bytes begin with. `place` is where they end, and `spans` becomes the places of the fields: a field has at least three
-/// bytes, so a third as many spans as bytes are enough.
+/// Returns the number of line feeds.
+fn count_line_feeds(bytes: &[u8]) -> usize
+    ensures { result ≡ line_feeds bytes.now }
+{
+    let mut count = 0;
+    for &byte in bytes {
+        if byte == b'\n' {
+            count += 1;
+        }
+    }
+    count
+}
+
+/// Reads the head that bytes begin with. `place` is where they end, and `spans` becomes the places of the fields, of which there are at most as
+/// many as line feeds.
 pub fn read_head(
     alloc: Global,
     bytes: &[u8],
@@ -50,12 +63,12 @@ pub fn read_head(
     requires scanned { place ≡ place_of bytes.now }
     ensures { IfOk result (λ heard. HearsAs bytes.now spans.new.items heard) }
 {
-    *spans = vec![in alloc; EMPTY_HEADER_SPAN; bytes.len() / 3]?;
+    *spans = vec![in alloc; EMPTY_HEADER_SPAN; count_line_feeds(bytes)]?;
     Ok(parsed_head(bytes, place, spans))
 }
 
 fn parsed_head(bytes: &[u8], place: Place, spans: &mut [HeaderSpan]) -> Heard
-    requires room { length bytes.now < 3 * length spans.old + 3 }
+    requires room { line_feeds bytes.now ≤ length spans.old }
     requires scanned { place ≡ place_of bytes.now }
     ensures { HearsAs bytes.now spans.new result }
 {
