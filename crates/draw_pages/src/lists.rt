@@ -11,18 +11,18 @@ const VALIDITY: u32 = 8;
 
 /// The UID and the depth of each message, in the order of the threads.
 const FLAT: [(u32, u32); 12] = [
-    (12, 0),
+    (6, 0),
+    (1, 0),
     (2, 0),
     (3, 1),
     (4, 2),
     (7, 1),
-    (1, 0),
     (5, 0),
     (8, 1),
     (9, 2),
     (10, 3),
-    (6, 0),
     (11, 0),
+    (12, 0),
 ];
 
 /// The folder whose messages are listed.

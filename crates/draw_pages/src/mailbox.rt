@@ -82,7 +82,7 @@ const MESSAGES: [(u32, &str, u64, &str); 12] = [
         11,
         "\\Recent",
         26_214_400,
-        "From: =?utf-8?b?5bGx55Sw5aSq6YOO?= <yamada@choir.example>\r\nSubject: =?utf-8?b?5qW96K2c?= (scores)\r\nDate: Fri, 9 Jan 2026 03:00:00 +0900\r\n\r\n",
+        "From: =?utf-8?b?0JjRgNC40L3QsCDQktC+0LvQutC+0LLQsA==?= <irina@choir.example>\r\nSubject: =?utf-8?b?0J3QvtGC0Ys=?= (scores)\r\nDate: Fri, 9 Jan 2026 03:00:00 +0300\r\n\r\n",
     ),
     (
         12,
