@@ -1,0 +1,6 @@
+pub mod Stuffing
+pub mod Growing
+pub mod HearingOut
+pub mod Hearings
+pub mod Pushing
+pub mod Following
