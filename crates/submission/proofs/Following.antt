@@ -1,15 +1,14 @@
 -- Steps that are gone through one after another.
-use Rattle.std.proofs.Common.{◌≡◌, ℕ, ◌+◌, ◌<◌, List, [], ◌∷◌, ◌++◌, length, drop, get_or, refl, sym, ap, ◌∙◌, subst, append_assoc, append-nil, All, map, arith, inl, inr}
-use Rattle.std.specs.Prelude.{Option, Some, None, Result, Ok, Err}
+use Rattle.std.proofs.Common.{◌≡◌, ℕ, ◌+◌, ◌<◌, List, [], ◌∷◌, ◌++◌, length, drop, get_or, refl, sym, ap, ◌∙◌, subst, append_assoc, append-nil}
+use Rattle.std.specs.Prelude.{Option, Result, Ok, Err, IsErrAnd}
 use Rattle.std.proofs.lemmas.List.{drop_more}
 use Rattle.account_pictures.specs.declared.talk.Piece.{Piece}
-use Rattle.account_pictures.specs.declared.talk.Piece.TheVariants.{Said}
-use Rattle.mail_io.specs.Talks.{AppendsPiece, SaysPrefix}
 use Rattle.submission.specs.declared.fault.SubmitFault.{SubmitFault}
 use Rattle.submission.specs.declared.steps.Step.{Step}
-use Rattle.submission.specs.Replies.{Hearing}
-use Rattle.submission.specs.Stops.{StepsTo}
-use Rattle.submission.specs.Submits.{GrowsBy, Ending, IsExchange, outcome_of, onward, Follows}
+use Rattle.submission.specs.declared.fault.Stop.{Stop}
+use Rattle.submission.specs.Replies.{Hearing, dialled}
+use Rattle.submission.specs.Stops.{StepsTo, followed, finished}
+use Rattle.submission.specs.Submits.{GrowsBy, onward, Follows, Submits, fault_seen}
 use Rattle.submission.proofs.Growing.{grows_none, grows_then, grows_weaker}
 
 -- what is left of the steps leads to what all of them lead to
@@ -32,8 +31,8 @@ leads_on a b c steps i d h u v step within is grows one =
     grows_then a b c (LeadsTo steps h (drop i steps) u) (LeadsTo steps h (drop (i + 1) steps) v) grows
     (λ first leads. grows_weaker b c (λ pieces. StepsTo step u pieces (Ok v)) (λ rest. LeadsTo steps h (drop (i + 1) steps) v (first ++ rest)) one
     (λ pieces steps_to. λ rest result follows.
-        subst (λ (l : List Piece). Follows steps h l result) (sym (append_assoc first pieces rest))
-        (leads (pieces ++ rest) result (subst (λ (l : List Step). Follows l u (pieces ++ rest) result) (ap (λ (s : Step). s ∷ drop (i + 1) steps) is ∙ sym (drop_more steps i d within)) (one_more step (drop (i + 1) steps) u v pieces rest result steps_to follows)))))
+    subst (λ (l : List Piece). Follows steps h l result) (sym (append_assoc first pieces rest))
+    (leads (pieces ++ rest) result (subst (λ (l : List Step). Follows l u (pieces ++ rest) result) (ap (λ (s : Step). s ∷ drop (i + 1) steps) is ∙ sym (drop_more steps i d within)) (one_more step (drop (i + 1) steps) u v pieces rest result steps_to follows)))))
 
 pub leads_fault : (a b c : Option (List Piece)) (steps : List Step) (i : ℕ) (d : Step) (h u : Hearing) (step : Step) (fault : SubmitFault) → i < length steps → step ≡ get_or steps i d → GrowsBy a b (LeadsTo steps h (drop i steps) u) → GrowsBy b c (λ pieces. StepsTo step u pieces (Err fault)) → GrowsBy a c (λ pieces. Follows steps h pieces (Err fault))
 leads_fault a b c steps i d h u step fault within is grows one =
@@ -45,3 +44,20 @@ pub leads_end : (a b : Option (List Piece)) (steps left : List Step) (h u : Hear
 leads_end a b steps left h u none grows =
     grows_weaker a b (LeadsTo steps h left u) (λ pieces. Follows steps h pieces (Ok u)) grows
     (λ pieces leads. subst (λ (l : List Piece). Follows steps h l (Ok u)) (append-nil pieces) (leads [] (Ok u) (subst (λ (l : List Step). Follows l u [] (Ok u)) (sym none) (refl, refl))))
+
+-- ---- faults that are handed on
+
+pub err_followed : (a b : Option (List Piece)) (steps : List Step) (h u : Hearing) (result : Result (Unit {0}) Stop) (e : Stop) → IsErrAnd result (λ x. x ≡ e)
+    → GrowsBy a b (λ pieces. Follows steps h pieces (Err (fault_seen e u))) → GrowsBy a b (λ pieces. Follows steps h pieces (followed result u))
+err_followed a b steps h u (Ok done) e is grows = absurd is
+err_followed a b steps h u (Err x) e is grows = subst (λ (f : Stop). GrowsBy a b (λ pieces. Follows steps h pieces (Err (fault_seen f u)))) (sym is) grows
+
+submits_fault : (steps : List Step) (body : List ℕ) (h : Hearing) (fault : SubmitFault) (pieces : List Piece) → h ≡ dialled → Follows steps h pieces (Err fault) → Submits steps body pieces (Err fault)
+submits_fault steps body h fault pieces new follows = (pieces, [], Err fault, sym (append-nil pieces), subst (λ (x : Hearing). Follows steps x pieces (Err fault)) new follows, (refl, refl))
+
+pub err_submits : (a b : Option (List Piece)) (steps : List Step) (body : List ℕ) (h u : Hearing) (result : Result (Unit {0}) Stop) (e : Stop) → h ≡ dialled → IsErrAnd result (λ x. x ≡ e)
+    → GrowsBy a b (λ pieces. Follows steps h pieces (Err (fault_seen e u))) → GrowsBy a b (λ pieces. Submits steps body pieces (finished result u))
+err_submits a b steps body h u (Ok done) e new is grows = absurd is
+err_submits a b steps body h u (Err x) e new is grows =
+    subst (λ (f : Stop). GrowsBy a b (λ pieces. Submits steps body pieces (Err (fault_seen f u)))) (sym is)
+    (grows_weaker a b (λ pieces. Follows steps h pieces (Err (fault_seen e u))) (λ pieces. Submits steps body pieces (Err (fault_seen e u))) grows (λ pieces. submits_fault steps body h (fault_seen e u) pieces new))

@@ -1,5 +1,5 @@
 -- Talks that grow, part by part.
-use Rattle.std.proofs.Common.{◌≡◌, List, [], ◌∷◌, ◌++◌, refl, sym, ap, ◌∙◌, append_assoc, append-nil, subst}
+use Rattle.std.proofs.Common.{List, [], ◌∷◌, ◌++◌, sym, ap, ◌∙◌, append_assoc, append-nil}
 use Rattle.std.specs.Prelude.{Option, Some, None}
 use Rattle.account_pictures.specs.declared.talk.Piece.{Piece}
 use Rattle.mail_io.specs.Talks.{AppendsPiece, KeepsTalk}

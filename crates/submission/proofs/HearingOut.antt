@@ -1,12 +1,12 @@
 -- Pieces that are heard until a reply is there.
-use Rattle.std.proofs.Common.{◌≡◌, ℕ, List, [], ◌∷◌, ◌++◌, refl, sym, ap, ◌∙◌, subst, Bool, true, false, append-nil}
-use Rattle.std.specs.Prelude.{Option, Some, None}
+use Rattle.std.proofs.Common.{◌≡◌, ℕ, List, [], ◌∷◌, ◌++◌, sym, ap, ◌∙◌, subst, true, false, append-nil}
+use Rattle.std.specs.Prelude.{Option}
 use Rattle.account_pictures.specs.declared.talk.Piece.{Piece}
 use Rattle.account_pictures.specs.declared.talk.Piece.TheVariants.{Dialled, Said, Heard}
-use Rattle.mail_io.specs.Talks.{AppendsPiece, KeepsTalk}
+use Rattle.mail_io.specs.Talks.{KeepsTalk}
 use Rattle.submission.specs.Replies.{Hearing, hear, is_awaiting}
 use Rattle.submission.specs.Hearings.{HearsPiece}
-use Rattle.submission.specs.Submits.{GrowsBy, HearsOut, Hears, Ending, replied, lost}
+use Rattle.submission.specs.Submits.{GrowsBy, HearsOut, Hears, replied, lost}
 use Rattle.submission.proofs.Growing.{grows_kept, grows_piece, grows_then, grows_weaker}
 
 hears_push : (h : Hearing) (pieces : List Piece) (u : Hearing) (bytes : List ℕ) → HearsOut h pieces u → is_awaiting u ≡ true → HearsOut h (pieces ++ Heard bytes ∷ []) (hear u bytes)

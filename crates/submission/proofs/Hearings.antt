@@ -1,10 +1,10 @@
 -- Bytes that are heard one after another.
-use Rattle.std.proofs.Common.{◌≡◌, ℕ, ◌+◌, ◌≤◌, ◌<◌, List, [], ◌∷◌, ◌++◌, length, refl, sym, ap, ◌∙◌, Bool, true, false, arith, append-nil, append_assoc, inl, inr, drop, take, get_or}
+use Rattle.std.proofs.Common.{◌≡◌, ℕ, ◌+◌, ◌≤◌, ◌<◌, List, [], ◌∷◌, ◌++◌, length, refl, sym, ap, ◌∙◌, true, false, arith, append-nil, append_assoc, inl, inr, drop, take, get_or}
 use Rattle.std.specs.Prelude.{nat_le, ◌==◌, ◌&&◌}
 use Rattle.std.proofs.lemmas.Bool.{cases_Bool}
 use Rattle.std.proofs.lemmas.List.{drop_more, drop_all, length-take-le}
 use Rattle.submission.specs.Hearings.{unread}
-use Rattle.submission.specs.Replies.{Hearing, Reading, hear, heard, is_awaited, is_awaiting, read, ends_in_return, reply_limit, begun, place_after, next_reply}
+use Rattle.submission.specs.Replies.{Hearing, Reading, hear, is_awaited, is_awaiting, read, ends_in_return, reply_limit, begun, place_after, next_reply}
 
 -- after a whole or damaged reply all bytes are kept
 pub hear_late : (r : Reading) (rest bytes : List ℕ) → is_awaited r.verdict ≡ false → hear (record { reading = r; rest = rest }) bytes ≡ record { reading = r; rest = rest ++ bytes }
@@ -21,9 +21,9 @@ unfolding read
 read_grows r b = elim (cases_Bool (nat_le reply_limit r.size)) [
   | inl full ↦ rw full (λ e. absurd (cc))
   | inr room ↦ rw room (elim (cases_Bool (b == 10 && ends_in_return r.line)) [
-      | inl ends ↦ rw ends (λ e. refl)
-      | inr goes ↦ rw goes (λ e. refl)
-    ])
+    | inl ends ↦ rw ends (λ e. refl)
+    | inr goes ↦ rw goes (λ e. refl)
+  ])
 ]
 
 -- a byte of some that are read by their places

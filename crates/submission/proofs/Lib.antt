@@ -1,4 +1,5 @@
 pub mod Stuffing
+pub mod Sayables
 pub mod Growing
 pub mod HearingOut
 pub mod Hearings

@@ -1,5 +1,5 @@
 -- Lists that grow by what their elements become.
-use Rattle.std.proofs.Common.{◌≡◌, ℕ, ◌+◌, ◌<◌, List, [], ◌∷◌, ◌++◌, length, map, take, get_or, refl, sym, ap, ◌∙◌, append_assoc}
+use Rattle.std.proofs.Common.{◌≡◌, ℕ, ◌+◌, ◌<◌, List, [], ◌∷◌, ◌++◌, length, map, take, get_or, sym, ap, ◌∙◌, append_assoc}
 use Rattle.std.proofs.lemmas.List.{take_more, map-append}
 
 pub push_mapped : {A B : Type 0} (f : A → B) (xs : List A) (i : ℕ) (d : A) (before old new : List B) (y : B) → i < length xs → old ≡ before ++ map f (take i xs) → y ≡ f (get_or xs i d) → new ≡ old ++ y ∷ [] → new ≡ before ++ map f (take (i + 1) xs)

@@ -1,7 +1,7 @@
 -- A message whose bytes are written one after another.
-use Rattle.std.proofs.Common.{◌≡◌, ℕ, List, [], ◌∷◌, ◌++◌, refl, sym, ap, ◌∙◌, Bool, true, false, cond, append_assoc, map, inl, inr, ◌<◌, ◌+◌, length, arith, subst}
+use Rattle.std.proofs.Common.{◌≡◌, ℕ, List, [], ◌∷◌, ◌++◌, refl, sym, ap, ◌∙◌, Bool, true, false, map, inl, inr, ◌<◌, length, arith, subst}
 use Rattle.std.specs.Prelude.{if◌then◌else◌, ◌==◌, ◌&&◌}
-use Rattle.std.specs.List.{join_with_byte, slice_split, onto_first}
+use Rattle.std.specs.List.{join_with_byte, onto_first}
 use Rattle.std.proofs.lemmas.Bool.{cases_Bool, cases_eq, ne_eqb}
 use Rattle.std.proofs.lemmas.List.Splits.{length-slice_split}
 use Rattle.submission.specs.Script.{stuffed, lines_of, dotted}
@@ -29,9 +29,9 @@ onto_written : (begins : Bool) (b : ℕ) (lines : List (List ℕ)) → joined be
 onto_written false b [] = refl
 onto_written false b (line ∷ []) = refl
 onto_written false b (line ∷ next ∷ lines) = refl
-onto_written true b [] = elim (cases_Bool (b == 46)) [ | inl is ↦ rw is refl | inr other ↦ rw other refl ]
-onto_written true b (line ∷ []) = elim (cases_Bool (b == 46)) [ | inl is ↦ rw is refl | inr other ↦ rw other refl ]
-onto_written true b (line ∷ next ∷ lines) = elim (cases_Bool (b == 46)) [ | inl is ↦ rw is refl | inr other ↦ rw other refl ]
+onto_written true b [] = elim (cases_Bool (b == 46)) [ inl is ↦ rw is refl | inr other ↦ rw other refl ]
+onto_written true b (line ∷ []) = elim (cases_Bool (b == 46)) [ inl is ↦ rw is refl | inr other ↦ rw other refl ]
+onto_written true b (line ∷ next ∷ lines) = elim (cases_Bool (b == 46)) [ inl is ↦ rw is refl | inr other ↦ rw other refl ]
 
 -- a line end before lines
 end_written : (begins : Bool) (lines : List (List ℕ)) → 0 < length lines → joined begins ([] ∷ lines) ≡ 10 ∷ joined true lines

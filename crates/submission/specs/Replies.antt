@@ -1,6 +1,6 @@
 -- Replies of a submission server (RFC 5321 §4.2): one or more lines, each ended by CR LF. All but the last are three digits, `-` and a
 -- text; the last is three digits, and then nothing or a space and a text. A reply's code and text are those of its last line.
-use Rattle.std.specs.Prelude.{ℕ, ◌+◌, ◌*◌, ◌-◌, ◌^◌, min, Bool, true, false, not, ◌&&◌, ◌==◌, nat_le, List, [], ◌∷◌, ◌++◌, length, take, drop, fold, Option, Some, None, if◌then◌else◌}
+use Rattle.std.specs.Prelude.{ℕ, ◌+◌, ◌*◌, ◌-◌, ◌^◌, min, Bool, true, false, ◌&&◌, ◌==◌, nat_le, List, [], ◌∷◌, ◌++◌, length, take, drop, fold, Option, Some, None, if◌then◌else◌}
 use Rattle.std.specs.Char.{is_ascii_digit}
 use Rattle.std.specs.List.{slice_get}
 use Rattle.submission.specs.declared.lines.Line as lines

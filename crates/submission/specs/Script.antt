@@ -3,7 +3,6 @@ use Rattle.std.specs.Prelude.{ℕ, Bool, ◌==◌, ◌||◌, List, [], ◌∷◌
 use Rattle.std.specs.List.{slice_split, join_with_byte}
 use Rattle.base64.specs.Engines.{standard}
 use Rattle.base64.specs.GeneralPurpose.{encode_of}
-use Rattle.submission.specs.declared.steps.Opening.{Opening}
 use Rattle.submission.specs.declared.steps.Opening.TheVariants.{Dial, Say}
 use Rattle.submission.specs.declared.steps.Step.{Step}
 use Rattle.submission.specs.declared.steps.Wanted.{Wanted}

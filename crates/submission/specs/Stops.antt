@@ -1,5 +1,5 @@
 -- What the parts of a submission return, in the terms of its definition.
-use Rattle.std.specs.Prelude.{◌≡◌, ℕ, ◌<◌, ◌≤◌, List, length, Option, Result, Ok, Err, ⊤}
+use Rattle.std.specs.Prelude.{◌≡◌, ℕ, ◌<◌, ◌≤◌, List, length, Result, Ok, Err, ⊤}
 use Rattle.account_pictures.specs.declared.talk.Piece.{Piece}
 use Rattle.mail_io.specs.Causes.{Rose}
 use Rattle.submission.specs.declared.fault.SubmitFault.{SubmitFault}

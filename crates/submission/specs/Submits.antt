@@ -15,7 +15,7 @@ use Rattle.submission.specs.declared.steps.Wanted.TheVariants.{Done}
 use Rattle.submission.specs.declared.fault.Stop.{Stop}
 use Rattle.submission.specs.declared.fault.Stop.TheVariants.{Refused, Damaged, Link, Doubt}
 use Rattle.submission.specs.Replies.{Hearing, text_of, hear, is_awaiting, dialled, next_reply}
-use Rattle.submission.specs.Script.{is_wanted, dot_line, quit_line, dotted, script}
+use Rattle.submission.specs.Script.{is_wanted, dot_line, quit_line}
 
 -- ---- one reply
 

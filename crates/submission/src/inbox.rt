@@ -117,7 +117,9 @@ impl Inbox {
                 code,
                 text: self.reply.into_text(),
             },
-            Stop::Damaged => SubmitFault::Damaged { at: self.reply.at() },
+            Stop::Damaged => SubmitFault::Damaged {
+                at: self.reply.at(),
+            },
             Stop::Link => SubmitFault::Link,
             Stop::Doubt => SubmitFault::Doubt,
         }

@@ -9,11 +9,9 @@ pub mod replies;
 pub mod steps;
 mod submitting;
 
-
 pub use fault::SubmitFault;
 use mail_values::Text;
 pub use submitting::submit;
-
 
 /// Whom a message is from and to: `local@domain` each. `form` is the number of the form that it was written in.
 #[derive(Drop)]

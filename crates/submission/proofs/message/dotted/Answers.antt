@@ -1,4 +1,4 @@
-use Rattle.std.proofs.Common.{◌≡◌, ◌++◌, [], ap, sym, ◌∙◌, append-nil, List, ℕ, arith}
+use Rattle.std.proofs.Common.{◌++◌, ap, sym, ◌∙◌, append-nil, List, ℕ}
 use Rattle.std.proofs.lemmas.List.{drop_all}
 use Rattle.submission.proofs.Stuffing.{written, all_dotted}
 use Rattle.submission.proofs.message.dotted.Goals as goal

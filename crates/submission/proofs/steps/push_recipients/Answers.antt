@@ -1,4 +1,4 @@
-use Rattle.std.proofs.Common.{rules, ◌≡◌, ap, ◌∙◌}
+use Rattle.std.proofs.Common.{ap, ◌∙◌}
 use Rattle.submission.specs.Script.{recipient_step}
 use Rattle.submission.proofs.Pushing.{push_mapped}
 use Rattle.submission.proofs.steps.push_recipients.Goals as goal

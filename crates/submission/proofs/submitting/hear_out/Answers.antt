@@ -1,7 +1,7 @@
-use Rattle.std.proofs.Common.{rules, ◌≡◌, true, false, ◌∙◌, sym, refl}
+use Rattle.std.proofs.Common.{◌∙◌, sym, refl}
 use Rattle.submission.specs.Submits.{HearsOut}
 use Rattle.submission.proofs.Growing.{grows_none}
-use Rattle.submission.proofs.HearingOut.{hears_more, hears_reply, hears_fault}
+use Rattle.submission.proofs.HearingOut.{hears_more}
 use Rattle.submission.proofs.submitting.hear_out.Goals as goal
 
 pub loop-inbox-init : goal.loop-inbox-init

@@ -1,4 +1,4 @@
-use Rattle.std.proofs.Common.{rules, ◌≡◌, ◌∙◌, sym, subst, ℕ}
+use Rattle.std.proofs.Common.{sym, subst, ℕ}
 use Rattle.submission.specs.Submits.{replied}
 use Rattle.submission.specs.Stops.{IsStopCaused}
 use Rattle.submission.proofs.Growing.{grows_weaker}
