@@ -5,3 +5,4 @@ pub mod HearingOut
 pub mod Hearings
 pub mod Pushing
 pub mod Following
+mod Examples
