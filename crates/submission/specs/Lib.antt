@@ -1,0 +1,5 @@
+pub mod Replies
+pub mod Hearings
+pub mod Script
+pub mod Submits
+pub mod Stops
