@@ -7,7 +7,7 @@ use mail_pages::{PageBytes, Text};
 use std::alloc::Global;
 
 /// The UIDVALIDITY of the folder.
-const VALIDITY: u32 = 8;
+pub const VALIDITY: u32 = 8;
 
 /// The UID and the depth of each message, in the order of the threads.
 const FLAT: [(u32, u32); 12] = [
@@ -26,7 +26,7 @@ const FLAT: [(u32, u32); 12] = [
 ];
 
 /// The folder whose messages are listed.
-fn folder(alloc: Global) -> Result<Text, Memory> {
+pub fn folder(alloc: Global) -> Result<Text, Memory> {
     Text::from_text(alloc, "Choir & Café")
 }
 

@@ -113,7 +113,7 @@ pub fn folders(alloc: Global) -> Result<Vec<Folder>, Memory> {
     Ok(folders)
 }
 
-fn row(alloc: Global, flag: &str, size: u64, header: &str) -> Result<Row, Memory> {
+pub fn row(alloc: Global, flag: &str, size: u64, header: &str) -> Result<Row, Memory> {
     Ok(Row {
         flags: words(alloc, flag)?,
         modseq: 20,

@@ -1,12 +1,13 @@
 //! Writes one page of the site, made from a made-up mailbox or from the message on standard input.
 //!
-//! `mailbox.rt` has the mailbox, `lists.rt` the pages that list it, and `forms.rt` the pages with forms.
+//! `mailbox.rt` has the mailbox, `lists.rt` the pages that list it, `forms.rt` the pages with forms, and `repeated.rt` pages of a long mailbox.
 #![tactic(auto)]
 
 mod forms;
 mod lists;
 mod mailbox;
 mod message;
+mod repeated;
 
 use mail_io::{Memory, WriterSink};
 use mail_pages::{PageBytes, WRITE_ROOM, write_page};
@@ -17,7 +18,8 @@ use std::process::ExitCode;
 use std::{env, io};
 
 const USAGE: &str =
-    "usage: draw_pages folders|list|search|threads|show|show-images|reply|forward|compose|identities|login|fault [SECTION]";
+    "usage: draw_pages folders|list|search|threads|show|show-images|reply|forward|compose|identities|login|fault [SECTION]
+       draw_pages repeat-list|repeat-threads ROWS TIMES PAGE";
 
 fn main(rt: HostRuntime) -> io::Result<ExitCode> {
     let words = env::args(&rt)?.skip(1).collect::<Vec<String>>(rt.alloc())?;
@@ -39,11 +41,28 @@ fn draw(alloc: Global, words: &[String], input: &[u8]) -> Result<Option<PageByte
     let kind = words.first().map_or("", |word| word.as_str());
     let section = words.get(1).map_or("", |word| word.as_str());
     match kind {
+        "repeat-list" => repeated::list(
+            alloc,
+            number(words, 1),
+            number(words, 2),
+            number(words, 3),
+        ),
+        "repeat-threads" => {
+            repeated::threads(alloc, number(words, 1), number(words, 2), number(words, 3))
+        }
         "show" => message::show(alloc, input, section, false),
         "show-images" => message::show(alloc, input, section, true),
         "reply" => Ok(Some(forms::made_from(alloc, input, How::Reply)?)),
         "forward" => Ok(Some(forms::made_from(alloc, input, How::Forward)?)),
         _ => draw_fixed(alloc, kind),
+    }
+}
+
+/// The number that a word is, or 0.
+fn number(words: &[String], place: usize) -> u32 {
+    match words.get(place) {
+        Some(word) => word.parse::<u32>().unwrap_or(0),
+        None => 0,
     }
 }
 
