@@ -3,15 +3,17 @@ use Rattle.std.specs.Prelude.{◌≡◌, ◌⊎◌, ℕ, ◌<◌, List, [], ◌�
 use Rattle.account_pictures.specs.declared.talk.Piece.{Piece}
 use Rattle.account_pictures.specs.declared.talk.Piece.TheVariants.{Said}
 
--- a talk that is told grows by a piece
+-- a talk that is told grows by a piece; one that isn't told stays so
 abbrev pub AppendsPiece : Option (List Piece) → Option (List Piece) → Piece → Type 0
-AppendsPiece None new piece = ⊤
+AppendsPiece None None piece = ⊤
+AppendsPiece None (Some longer) piece = ⊥
 AppendsPiece (Some talk) None piece = ⊥
 AppendsPiece (Some talk) (Some longer) piece = longer ≡ talk ++ piece ∷ []
 
--- a talk that is told stays
+-- a talk that is told stays, and one that isn't stays so
 abbrev pub KeepsTalk : Option (List Piece) → Option (List Piece) → Type 0
-KeepsTalk None new = ⊤
+KeepsTalk None None = ⊤
+KeepsTalk None (Some same) = ⊥
 KeepsTalk (Some talk) None = ⊥
 KeepsTalk (Some talk) (Some same) = same ≡ talk
 
@@ -30,8 +32,9 @@ pub record EndsInNothingSaid (talk : List Piece) : Type 0 where
 abbrev pub StaysAtNothingSaid : List Piece → List Piece → Type 0
 StaysAtNothingSaid talk same = EndsInNothingSaid talk × (same ≡ talk)
 
--- a talk that is told grows by a proper prefix of some bytes. After a piece of no bytes it may stay.
+-- a talk that is told grows by a proper prefix of some bytes. After a piece of no bytes it may stay. One that isn't told stays so.
 abbrev pub SaysPrefix : Option (List Piece) → Option (List Piece) → List ℕ → Type 0
-SaysPrefix None new bytes = ⊤
+SaysPrefix None None bytes = ⊤
+SaysPrefix None (Some longer) bytes = ⊥
 SaysPrefix (Some talk) None bytes = ⊥
 SaysPrefix (Some talk) (Some longer) bytes = GrowsByPrefix talk longer bytes ⊎ StaysAtNothingSaid talk longer

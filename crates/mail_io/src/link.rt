@@ -8,7 +8,7 @@ use crate::Failed;
 
 /// A connection to a server. What was said and heard on it is its talk, which may be told or not.
 pub trait Link {
-    /// The talk so far, if the link tells it.
+    /// The talk so far, if the link tells it. A link tells it always or never.
     ghost talk: { Self → Option (List Piece) };
 
     /// The number of faults so far.
