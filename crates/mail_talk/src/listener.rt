@@ -1,5 +1,5 @@
 //! Follows a talk with a mail server.
-ghost use Rattle.std.specs.Prelude.{◌≡◌, ◌++◌, [], nat_le, true, OnOk};
+ghost use Rattle.std.specs.Prelude.{◌≡◌, ◌++◌, ◌+◌, [], nat_le, true, length, OnOk};
 ghost use Rattle.command_pieces.specs.Verbs.{verb_of_command};
 ghost use Rattle.mail_talk.specs.States.{nothing_told, is_listening};
 ghost use Rattle.mail_talk.specs.Taking.{TakesNext};
@@ -68,6 +68,13 @@ impl Listener {
         ensures { result ≡ self.now.at }
     {
         self.at
+    }
+
+    /// The number of bytes that were heard since the dial.
+    pub fn heard_len(&self) -> u64
+        ensures { result ≡ self.now.at + length self.now.rest }
+    {
+        self.at + self.waiting
     }
 
     /// The number of bytes that were heard since the last command was said, or since the dial.
@@ -172,7 +179,8 @@ impl Listener {
     /// Hears bytes. Out of memory, a fresh dial is needed. A dial has fewer than 2^64 bytes; more are refused as out of memory.
     #[tactic(auto, unfolding(crate::specs::Units::after_heard))]
     pub fn hear(&mut self, bytes: &[u8]) -> Result<(), Memory>
-        ensures { OnOk result (self.new ≡ after_heard bytes.now self.old) }
+        ensures tells { OnOk result (self.new ≡ after_heard bytes.now self.old) }
+        ensures counts { OnOk result (is_listening self.new.told.phase ≡ true → heard_count self.new ≡ heard_count self.old + length bytes.now) }
     {
         if self.told.phase().is_silent() {
             return Ok(());
