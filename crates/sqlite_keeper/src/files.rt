@@ -1,5 +1,6 @@
 //! Calls on the file of an account. Each opens it and closes it.
-ghost use Rattle.std.specs.Prelude.{◌≡◌, false, IfOk};
+ghost use Rattle.std.specs.Prelude.{◌≡◌, false, None, Ok, Err, IfOk};
+ghost use Rattle.sqlite_keeper.specs.Values.{AreNumbered};
 
 use crate::paths::{adopted_path, file_path};
 use crate::{FileFault, statements};
@@ -31,7 +32,9 @@ fn open(rt: &HostRuntime, path: &str) -> Result<FileConnection, Error>
 }
 
 /// Closes the file, also if the call was refused.
-fn finish<T: Drop>(conn: FileConnection, done: Result<T, FileFault>) -> Result<T, FileFault> {
+fn finish<T: Drop>(conn: FileConnection, done: Result<T, FileFault>) -> Result<T, FileFault>
+    ensures { IfOk result (λ value. done ≡ Ok value) }
+{
     let closed = conn.close();
     let value = done?;
     closed?;
@@ -44,7 +47,10 @@ pub fn identities(
     alloc: Global,
     folder: &Text,
     adopted: &Option<Text>,
-) -> Result<Vec<(u8, Identity)>, FileFault> {
+) -> Result<Vec<(u8, Identity)>, FileFault>
+    ensures numbered { IfOk result (λ list. AreNumbered list.items) }
+    ensures unadopted { adopted.now ≡ None → result ≡ Err FileFault.Refused }
+{
     let path = adopted_path(alloc, folder, adopted)?;
     let mut conn = open(rt, &path)?;
     let read = statements::identities(alloc, &mut conn);
@@ -59,7 +65,9 @@ pub fn put_identity(
     adopted: &Option<Text>,
     number: u8,
     identity: &Identity,
-) -> Result<(), FileFault> {
+) -> Result<(), FileFault>
+    ensures unadopted { adopted.now ≡ None → result ≡ Err FileFault.Refused }
+{
     let path = adopted_path(alloc, folder, adopted)?;
     let mut conn = open(rt, &path)?;
     let put = statements::put_identity(&mut conn, number, identity);
@@ -73,7 +81,9 @@ pub fn send_state(
     folder: &Text,
     adopted: &Option<Text>,
     form: u64,
-) -> Result<Option<SendState>, FileFault> {
+) -> Result<Option<SendState>, FileFault>
+    ensures unadopted { adopted.now ≡ None → result ≡ Err FileFault.Refused }
+{
     let path = adopted_path(alloc, folder, adopted)?;
     let mut conn = open(rt, &path)?;
     let read = statements::send_state(alloc, &mut conn, form);
@@ -88,7 +98,9 @@ pub fn set_send(
     adopted: &Option<Text>,
     form: u64,
     state: &Option<SendState>,
-) -> Result<(), FileFault> {
+) -> Result<(), FileFault>
+    ensures unadopted { adopted.now ≡ None → result ≡ Err FileFault.Refused }
+{
     let path = adopted_path(alloc, folder, adopted)?;
     let mut conn = open(rt, &path)?;
     let set = statements::set_send(alloc, &mut conn, form, state);

@@ -1,6 +1,8 @@
 //! The keeper over files.
-ghost use Rattle.std.specs.Prelude.{◌≡◌, None, IfOk};
+ghost use Rattle.std.specs.Prelude.{◌≡◌, None, IsErr, IfOk};
+ghost use Rattle.record_io.specs.Keepers.{HasKeepCause};
 ghost use Rattle.sqlite_keeper.specs.Faults.{Answers};
+ghost use Rattle.sqlite_keeper.specs.Values.{AreNumbered};
 
 use crate::{FileFault, files};
 use account_pictures::{Identity, SendState};
@@ -77,7 +79,12 @@ impl Keeper for SqliteKeeper {
         Ok(())
     }
 
-    fn identities(&mut self, alloc: Global) -> Result<Vec<(u8, Identity)>, KeepFault> {
+    fn identities(&mut self, alloc: Global) -> Result<Vec<(u8, Identity)>, KeepFault>
+        ensures numbered { IfOk result (λ list. AreNumbered list.items) }
+        ensures unadopted { self.old.adopted ≡ None → IsErr result }
+        ensures keeps_adopted { self.new.adopted ≡ self.old.adopted }
+        ensures cause { HasKeepCause self.old.faults self.new.faults result }
+    {
         let read = files::identities(&self.rt, alloc, &self.folder, &self.adopted);
         self.answer(read)
     }
@@ -87,7 +94,11 @@ impl Keeper for SqliteKeeper {
         alloc: Global,
         number: u8,
         identity: &Identity,
-    ) -> Result<(), KeepFault> {
+    ) -> Result<(), KeepFault>
+        ensures unadopted { self.old.adopted ≡ None → IsErr result }
+        ensures keeps_adopted { self.new.adopted ≡ self.old.adopted }
+        ensures cause { HasKeepCause self.old.faults self.new.faults result }
+    {
         let put = files::put_identity(
             &self.rt,
             alloc,
@@ -99,7 +110,11 @@ impl Keeper for SqliteKeeper {
         self.answer(put)
     }
 
-    fn send_state(&mut self, alloc: Global, form: u64) -> Result<Option<SendState>, KeepFault> {
+    fn send_state(&mut self, alloc: Global, form: u64) -> Result<Option<SendState>, KeepFault>
+        ensures unadopted { self.old.adopted ≡ None → IsErr result }
+        ensures keeps_adopted { self.new.adopted ≡ self.old.adopted }
+        ensures cause { HasKeepCause self.old.faults self.new.faults result }
+    {
         let read = files::send_state(&self.rt, alloc, &self.folder, &self.adopted, form);
         self.answer(read)
     }
@@ -109,7 +124,11 @@ impl Keeper for SqliteKeeper {
         alloc: Global,
         form: u64,
         state: Option<SendState>,
-    ) -> Result<(), KeepFault> {
+    ) -> Result<(), KeepFault>
+        ensures unadopted { self.old.adopted ≡ None → IsErr result }
+        ensures keeps_adopted { self.new.adopted ≡ self.old.adopted }
+        ensures cause { HasKeepCause self.old.faults self.new.faults result }
+    {
         let set = files::set_send(&self.rt, alloc, &self.folder, &self.adopted, form, &state);
         self.answer(set)
     }

@@ -5,10 +5,10 @@
 #![tactic(auto)]
 
 pub mod fault;
-pub mod files;
-pub mod keeping;
+mod files;
+mod keeping;
 pub mod paths;
-pub mod statements;
+mod statements;
 pub mod values;
 
 pub use fault::FileFault;

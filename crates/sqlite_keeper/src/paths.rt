@@ -1,5 +1,5 @@
 //! The names of files and the keys of forms.
-ghost use Rattle.std.specs.Prelude.{◌≡◌, IfOk, string_bytes};
+ghost use Rattle.std.specs.Prelude.{◌≡◌, ◌↔◌, None, IfOk, IfSome, IsErrOf, string_bytes};
 ghost use Rattle.sqlite_keeper.specs.Paths.{PathsAreApart, file_path, form_key};
 
 use crate::FileFault;
@@ -24,7 +24,10 @@ pub fn adopted_path(
     alloc: Global,
     folder: &Text,
     adopted: &Option<Text>,
-) -> Result<String, FileFault> {
+) -> Result<String, FileFault>
+    ensures equals { IfOk result (λ path. IfSome adopted.now (λ account. string_bytes path ≡ file_path folder.now account)) }
+    ensures refused { IsErrOf result FileFault.Refused ↔ (adopted.now ≡ None) }
+{
     match adopted {
         Some(account) => Ok(file_path(alloc, folder.as_str(), account.as_str())?),
         None => Err(FileFault::Refused),

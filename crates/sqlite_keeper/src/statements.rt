@@ -1,5 +1,6 @@
-//! The statements, over any store. None of their clauses can name what a file holds, so they have none.
-ghost use Rattle.std.specs.Prelude.{◌≡◌, false};
+//! The statements, over any store. No clause can name what a file holds.
+ghost use Rattle.std.specs.Prelude.{◌≡◌, false, IfOk};
+ghost use Rattle.sqlite_keeper.specs.Values.{AreNumbered};
 
 use crate::FileFault;
 use crate::paths::form_key;
@@ -49,7 +50,9 @@ fn check_version<S: Alter>(conn: &mut Connection<S>) -> Result<(), FileFault> {
 pub fn identities<S: Alter>(
     alloc: Global,
     conn: &mut Connection<S>,
-) -> Result<Vec<(u8, Identity)>, FileFault> {
+) -> Result<Vec<(u8, Identity)>, FileFault>
+    ensures { IfOk result (λ list. AreNumbered list.items) }
+{
     check_version(conn)?;
     let rows = conn.query_all(
         "SELECT number, name, address FROM identities ORDER BY number LIMIT 17",
@@ -58,7 +61,9 @@ pub fn identities<S: Alter>(
     read_identities(alloc, &rows)
 }
 
-fn read_identities(alloc: Global, rows: &[Row]) -> Result<Vec<(u8, Identity)>, FileFault> {
+fn read_identities(alloc: Global, rows: &[Row]) -> Result<Vec<(u8, Identity)>, FileFault>
+    ensures { IfOk result (λ list. AreNumbered list.items) }
+{
     let mut list = Vec::new(alloc);
     for row in rows {
         list.push(read_identity(row)?)?;

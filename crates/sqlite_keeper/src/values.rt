@@ -1,6 +1,6 @@
 //! Values as rows have them, and back.
-ghost use Rattle.std.specs.Prelude.{◌≡◌, ◌≤◌, ℤ, pos, IfSome, IfOk, Some};
-ghost use Rattle.sqlite_keeper.specs.Values.{state_number};
+ghost use Rattle.std.specs.Prelude.{◌≡◌, pos, IfSome, IfOk, Some};
+ghost use Rattle.sqlite_keeper.specs.Values.{IsNumber, state_number};
 ghost use Rattle.account_pictures.specs.declared.records.SendState.{SendState};
 
 use crate::FileFault;
@@ -36,8 +36,7 @@ pub fn read_state(number: i64) -> Option<SendState>
 
 /// Returns the number of an identity. One outside 1 to 16 is refused.
 fn read_number(number: i64) -> Result<u8, FileFault>
-    ensures from_one { IfOk result (λ n. 1 ≤ n) }
-    ensures to_sixteen { IfOk result (λ n. n ≤ 16) }
+    ensures numbered { IfOk result IsNumber }
     ensures equals { IfOk result (λ n. pos n ≡ number) }
 {
     if number < 1 || number > LAST_NUMBER {
@@ -48,8 +47,7 @@ fn read_number(number: i64) -> Result<u8, FileFault>
 
 /// Reads a row of an identity: its number, its name and its address.
 pub fn read_identity(row: &Row) -> Result<(u8, Identity), FileFault>
-    ensures from_one { IfOk result (λ entry. 1 ≤ entry.0) }
-    ensures to_sixteen { IfOk result (λ entry. entry.0 ≤ 16) }
+    ensures { IfOk result (λ entry. IsNumber entry.0) }
 {
     let number = read_number(row.get(0)?)?;
     let name: String = row.get(1)?;
