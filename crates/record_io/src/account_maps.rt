@@ -71,6 +71,7 @@ impl AccountMaps {
     pub fn remove_state(&mut self, form: u64)
         ensures { self.new ≡ record self.old { sends = filter (λ send. not (form == send.0)) self.old.sends } }
     {
+        // `len` promises that the keys ascend, so that one removal is enough.
         if self.sends.len() > 0 {
             let _ = self.sends.remove(&form);
         }
