@@ -2,7 +2,7 @@
 use Rattle.std.proofs.Common.{◌≡◌, refl}
 use Rattle.std.specs.Prelude.{codes}
 use Rattle.hex.specs.Hex.{encode_with}
-use Rattle.sqlite_keeper.specs.Paths.{file_path, form_key}
+use Rattle.sqlite_keeper.specs.FilePaths.{file_path, form_key}
 
 ann : file_path (codes "kept") (codes "ann") ≡ codes "kept/616e6e.db"
 unfolding encode_with

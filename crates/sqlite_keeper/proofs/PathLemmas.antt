@@ -6,7 +6,7 @@ use Rattle.std.proofs.lemmas.List.{append_cancel_left, append_cancel_right}
 use Rattle.std.proofs.lemmas.Nat.{from_be_bytes-to_be_bytes_8}
 use Rattle.hex.specs.Hex.{IsBytes, decode_of, encode_lower}
 use Rattle.hex.proofs.HexLemmas.{decode_of-encode_lower, decode_of-ok, decode_of-same}
-use Rattle.sqlite_keeper.specs.Paths.{PathsAreApart}
+use Rattle.sqlite_keeper.specs.FilePaths.{PathsAreApart}
 
 same_bytes : (one other : List ℕ) → IsBytes one → IsBytes other → encode_lower one ≡ encode_lower other → one ≡ other
 same_bytes one other h k e = decode_of-same (encode_lower one) one other (decode_of-encode_lower one h) (ap decode_of e ∙ decode_of-encode_lower other k)

@@ -1,3 +1,3 @@
 pub mod Faults
-pub mod Paths
-pub mod Values
+pub mod FilePaths
+pub mod StoredValues

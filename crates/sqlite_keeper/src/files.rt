@@ -1,6 +1,6 @@
 //! Calls on the file of an account. Each opens it and closes it.
 ghost use Rattle.std.specs.Prelude.{◌≡◌, false, None, Ok, Err, IfOk};
-ghost use Rattle.sqlite_keeper.specs.Values.{AreNumbered};
+ghost use Rattle.sqlite_keeper.specs.StoredValues.{AreNumbered};
 
 use crate::paths::{adopted_path, file_path};
 use crate::{FileFault, statements};

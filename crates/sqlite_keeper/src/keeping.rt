@@ -2,7 +2,7 @@
 ghost use Rattle.std.specs.Prelude.{◌≡◌, None, IsErr, IfOk};
 ghost use Rattle.record_io.specs.Keepers.{HasKeepCause};
 ghost use Rattle.sqlite_keeper.specs.Faults.{Answers};
-ghost use Rattle.sqlite_keeper.specs.Values.{AreNumbered};
+ghost use Rattle.sqlite_keeper.specs.StoredValues.{AreNumbered};
 
 use crate::{FileFault, files};
 use account_pictures::{Identity, SendState};

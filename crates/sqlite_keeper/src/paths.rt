@@ -1,6 +1,6 @@
 //! The names of files and the keys of forms.
 ghost use Rattle.std.specs.Prelude.{◌≡◌, ◌↔◌, None, IfOk, IfSome, IsErrOf, string_bytes};
-ghost use Rattle.sqlite_keeper.specs.Paths.{PathsAreApart, file_path, form_key};
+ghost use Rattle.sqlite_keeper.specs.FilePaths.{PathsAreApart, file_path, form_key};
 
 use crate::FileFault;
 use mail_values::Text;

@@ -1,6 +1,6 @@
 //! The statements, over any store. No clause can name what a file holds.
 ghost use Rattle.std.specs.Prelude.{◌≡◌, false, IfOk};
-ghost use Rattle.sqlite_keeper.specs.Values.{AreNumbered};
+ghost use Rattle.sqlite_keeper.specs.StoredValues.{AreNumbered};
 
 use crate::FileFault;
 use crate::paths::form_key;

@@ -1,6 +1,6 @@
 //! Values as rows have them, and back.
 ghost use Rattle.std.specs.Prelude.{◌≡◌, pos, IfSome, IfOk, Some};
-ghost use Rattle.sqlite_keeper.specs.Values.{IsNumber, state_number};
+ghost use Rattle.sqlite_keeper.specs.StoredValues.{IsNumber, state_number};
 ghost use Rattle.account_pictures.specs.declared.records.SendState.{SendState};
 
 use crate::FileFault;

@@ -1,4 +1,4 @@
-use Rattle.sqlite_keeper.specs.Values.{AreNumbered}
+use Rattle.sqlite_keeper.specs.StoredValues.{AreNumbered}
 use Rattle.sqlite_keeper.proofs.statements.read_identities.Given as goal
 
 abbrev pub invariant-loop-row : goal.invariant-loop-row
