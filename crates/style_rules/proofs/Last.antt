@@ -1,5 +1,5 @@
 -- What rules declare, found from the last rule back.
-use Rattle.std.proofs.Common.{◌≡◌, ℕ, zero, suc, ◌+◌, ◌-◌, ◌<◌, ◌≤◌, nat_lt, Bool, true, false, cond, ◌||◌, ◌&&◌, if◌then◌else◌, List, [], ◌∷◌, ◌++◌, length, map, take, drop, reverse, get_or, Option, Some, refl, sym, ap, subst, ◌∙◌, arith, append_assoc, inl, inr}
+use Rattle.std.proofs.Common.{◌≡◌, ℕ, zero, suc, ◌+◌, ◌-◌, ◌<◌, ◌≤◌, nat_lt, Bool, true, false, cond, ◌||◌, if◌then◌else◌, List, [], ◌∷◌, ◌++◌, length, map, take, drop, reverse, get_or, Option, Some, refl, sym, ap, subst, ◌∙◌, arith, append_assoc, inl, inr}
 use Rattle.std.specs.Prelude.{codes, is_some}
 use Rattle.std.specs.Borrow.{Bor}
 use Rattle.std.specs.Str.{bytes_eq}
@@ -12,15 +12,12 @@ use Rattle.html_rules.specs.Tables.{Name}
 use Rattle.style_wash.specs.Characters.{is_white}
 use Rattle.style_wash.proofs.Facts.{bytes_eq-true}
 use Rattle.style_rules.specs.Selectors.{Selector}
-use Rattle.style_rules.specs.Selectors.Selector.{ByName, ByClass, ByBoth}
 use Rattle.style_rules.specs.Rules.{Entry, Rule}
 use Rattle.style_rules.specs.Cascade.{declared, entries_for, entries_of, has_class, has_property, is_by_name, is_by_class, is_by_both, joined, last_of_each, within_limit}
-use Rattle.style_rules.specs.Steps.{before_later, found, is_in_group}
+use Rattle.style_rules.specs.Steps.{before_later, found}
 use Rattle.style_rules.specs.Seen.{entry_seen, rule_seen}
 use Rattle.style_rules.specs.declared.entries.Entry.{Entry as CodeEntry}
 use Rattle.style_rules.specs.declared.rule_list.Rule.{Rule as CodeRule}
-use Rattle.style_rules.specs.declared.cascade.Group.{Group}
-use Rattle.style_rules.specs.declared.cascade.Group.TheVariants as group
 use Rattle.style_rules.proofs.TextSteps.{last_piece}
 
 -- ---- tests
@@ -135,34 +132,16 @@ pub entries_other : (p : Selector → Bool) (r : Rule) (rules : List Rule) → p
 unfolding entries_of
 entries_other p r rules e = rw e refl
 
-same_test : (g : Group) (name : Name) (a b : List ℕ → Bool) → ((q : List ℕ) → a q ≡ b q) → (s : Selector) → is_in_group g name a s ≡ is_in_group g name b s
-same_test group.Name name a b h s = refl
-same_test group.Class name a b h (ByName own) = refl
-same_test group.Class name a b h (ByClass class) = h class
-same_test group.Class name a b h (ByBoth own class) = refl
-same_test group.Both name a b h (ByName own) = refl
-same_test group.Both name a b h (ByClass class) = refl
-same_test group.Both name a b h (ByBoth own class) = ap (λ (c : Bool). bytes_eq own name && c) (h class)
-
-pub same_entries : (p q : Selector → Bool) → ((s : Selector) → p s ≡ q s) → (rules : List Rule) → entries_of p rules ≡ entries_of q rules
-same_entries p q h [] = no_entries p ∙ sym (no_entries q)
-same_entries p q h (r ∷ rules) = elim (cases_Bool (p r.selector)) [
-  | inl e ↦ entries_more p r rules e ∙ ap (λ (es : List Entry). r.entries ++ es) (same_entries p q h rules) ∙ sym (entries_more q r rules (sym (h r.selector) ∙ e))
-  | inr e ↦ entries_other p r rules e ∙ same_entries p q h rules ∙ sym (entries_other q r rules (sym (h r.selector) ∙ e))
-]
-
-pub found_all : (rules : List Rule) (name classes : List ℕ) (has : List ℕ → Bool) (both class named : List Entry) → ((q : List ℕ) → has q ≡ has_class classes q)
-    → both ≡ before_later (entries_of (is_in_group group.Both name has) rules) [] → class ≡ before_later (entries_of (is_in_group group.Class name has) rules) both
-    → named ≡ before_later (entries_of (is_in_group group.Name name has) rules) class → named ≡ last_of_each (entries_for rules name (has_class classes))
-found_all rules name classes has both class named h b c n =
-    let eb = same_entries (is_in_group group.Both name has) (is_by_both name (has_class classes)) (same_test group.Both name has (has_class classes) h) rules in
-    let ec = same_entries (is_in_group group.Class name has) (is_by_class (has_class classes)) (same_test group.Class name has (has_class classes) h) rules in
+pub found_all : (rules : List Rule) (name : Name) (has : List ℕ → Bool) (by_both by_class both class named : List Entry)
+    → by_both ≡ entries_of (is_by_both name has) rules → by_class ≡ entries_of (is_by_class has) rules
+    → both ≡ before_later by_both [] → class ≡ before_later by_class both → named ≡ before_later (entries_of (is_by_name name) rules) class → named ≡ last_of_each (entries_for rules name has)
+found_all rules name has by_both by_class both class named eb ec b c n =
     let en = entries_of (is_by_name name) rules in
     n ∙ ap (before_later en) (c ∙ ap (λ (es : List Entry). before_later es both) ec)
-    ∙ ap (λ (es : List Entry). before_later en (before_later (entries_of (is_by_class (has_class classes)) rules) es)) (b ∙ ap (λ (es : List Entry). before_later es []) eb)
-    ∙ ap (before_later en) (sym (later-append (entries_of (is_by_class (has_class classes)) rules) (entries_of (is_by_both name (has_class classes)) rules) []))
-    ∙ sym (later-append en (entries_of (is_by_class (has_class classes)) rules ++ entries_of (is_by_both name (has_class classes)) rules) [])
-    ∙ later_is (entries_for rules name (has_class classes))
+    ∙ ap (λ (es : List Entry). before_later en (before_later (entries_of (is_by_class has) rules) es)) (b ∙ ap (λ (es : List Entry). before_later es []) eb)
+    ∙ ap (before_later en) (sym (later-append (entries_of (is_by_class has) rules) (entries_of (is_by_both name has) rules) []))
+    ∙ sym (later-append en (entries_of (is_by_class has) rules ++ entries_of (is_by_both name has) rules) [])
+    ∙ later_is (entries_for rules name has)
 
 pub declared_is : (rules : List Rule) (name classes style : List ℕ) (entries : List Entry) → entries ≡ last_of_each (entries_for rules name (has_class classes)) → style ≡ joined entries → within_limit style ≡ declared rules name classes
 unfolding declared

@@ -5,3 +5,4 @@ pub mod Styles
 pub mod RuleSteps
 pub mod Last
 pub mod Written
+pub mod Words

@@ -11,7 +11,6 @@ use Rattle.style_wash.specs.Declarations.{Declaration, declarations, stylewash}
 use Rattle.style_rules.proofs.Styles.{declarations_washed}
 use Rattle.style_rules.specs.Rules.{Entry, Rule, entry_of, entries_in, is_at_rule, is_rule_style, last_statement, option_list, rule_with, rules, rules_limit, rules_of_block, with_rules}
 use Rattle.style_rules.proofs.TextSteps.{last_piece}
-use Rattle.style_wash.proofs.Facts.{and_true}
 
 nothing_taken : (n : ℕ) → take {A = Rule} n [] ≡ []
 nothing_taken zero = refl
@@ -24,9 +23,6 @@ pub with_full : (kept more : List Rule) → rules_limit ≤ length kept → with
 with_full kept more full =
     let none : rules_limit - length kept ≡ 0 = omega arith in
     ap (λ (n : ℕ). kept ++ take n more) none ∙ append-nil kept
-
-pub with_one : (kept : List Rule) (rule : Rule) → length kept < rules_limit → with_rules kept (rule ∷ []) ≡ kept ++ rule ∷ []
-with_one kept rule room = ap (λ (rs : List Rule). kept ++ rs) (take_all (rules_limit - length kept) (rule ∷ []) (omega arith))
 
 room_left : (kept first second : List Rule) → length first ≤ rules_limit - length kept → with_rules (with_rules kept first) second ≡ with_rules kept (first ++ second)
 room_left kept first second le =
@@ -145,6 +141,3 @@ unfolding rules_of_block entries_in
 some_rules kept new block style some washed fits added =
     added ∙ ap (λ (ds : List Declaration). with_rules kept (texts_rules (map entry_of ds) (slice_split is_comma (last_statement block.prelude)))) (ap declarations washed ∙ declarations_washed block.body)
     ∙ ap (with_rules kept) (sym (rw (some, ap is_rule_style (sym washed) ∙ fits) refl))
-
-pub style_some : (style : List ℕ) → is_rule_style style ≡ true → 0 < length style
-style_some style fits = leb-true 1 (length style) (and_true (nat_le 1 (length style)) _ fits).0

@@ -62,9 +62,6 @@ comment zero c more e lt = absurd (omega arith)
 comment (suc size) c more e lt =
     at_comment (suc size) size c more e (grind (arith, nat_tests)) (omega arith) ∙ ap (λ (t : List ℕ). 32 ∷ t) (spaced_skips size more)
 
-pub spaced_start : (text : List ℕ) → spaced text ≡ take 0 text ++ spaced (drop 0 text)
-spaced_start text = refl
-
 pub spaced_character : (text : List ℕ) (at : ℕ) → at < length text → comment_len (drop at text) ≡ 0 → spaced text ≡ take at text ++ spaced (drop at text)
     → spaced text ≡ take (at + 1) text ++ spaced (drop (at + 1) text)
 spaced_character text at lt e is =

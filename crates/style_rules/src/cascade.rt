@@ -2,7 +2,7 @@
 ghost use Rattle.std.specs.Prelude.{◌≡◌, [], IfOk, OnOk, map, string_bytes};
 ghost use Rattle.style_rules.specs.Cascade.{declared as declared_style, entries_of, has_property as has_property_in, joined};
 ghost use Rattle.style_rules.specs.Seen.{entries_seen, entry_seen, rule_seen, selector_seen};
-ghost use Rattle.style_rules.specs.Steps.{AddsWord, HasClasses, before_later, found, has_word, is_in_group};
+ghost use Rattle.style_rules.specs.Steps.{AddsClass, AddsKnown, AddsWord, AreKnown, AreRight, HasClasses, HasKnownClasses, before_later, found, has_word, is_in_group};
 
 use crate::blocks::find_white;
 use crate::entries::Entry;
@@ -29,7 +29,7 @@ const DECLARED_LIMIT: usize = 1024;
 pub fn declared(alloc: Global, rules: &[Rule], name: &str, classes: &str) -> Result<String, Memory>
     ensures { IfOk result (λ style. string_bytes style ≡ declared_style (map rule_seen rules.now) name.now classes.now) }
 {
-    let words = class_words(alloc, classes.as_bytes())?;
+    let words = class_words(alloc, rules, classes.as_bytes())?;
     let mut last = Vec::new(alloc);
     add_group(rules, Group::Both, name, &words, &mut last)?;
     add_group(rules, Group::Class, name, &words, &mut last)?;
@@ -41,8 +41,69 @@ pub fn declared(alloc: Global, rules: &[Rule], name: &str, classes: &str) -> Res
     Ok(style)
 }
 
+/// The length in bytes of a `class` of which all words are kept. Of a longer one only those are kept that are classes of rules.
+const SHORT_CLASSES: usize = 4096;
+
+/// Returns the classes of an element, or those that rules name.
+fn class_words<'c>(alloc: Global, rules: &[Rule], classes: &'c [u8]) -> Result<Words<'c>, Memory>
+    ensures { IfOk result (λ words. AreRight words classes.now (map rule_seen rules.now)) }
+{
+    if classes.len() <= SHORT_CLASSES {
+        return all_words(alloc, classes);
+    }
+    let known = rule_classes(alloc, rules)?;
+    known_words(alloc, &known, classes)
+}
+
+/// Returns the classes that rules name.
+fn rule_classes(alloc: Global, rules: &[Rule]) -> Result<Words<'_>, Memory>
+    ensures { IfOk result (λ known. AreKnown known (map rule_seen rules.now)) }
+{
+    let mut known = BTreeMap::new(alloc);
+    for rule in rules {
+        add_class(&mut known, &rule.selector)?;
+    }
+    Ok(known)
+}
+
+fn add_class<'r>(known: &mut Words<'r>, selector: &'r Selector) -> Result<(), Memory>
+    ensures { OnOk result (AddsClass known.old (selector_seen selector.now) known.new) }
+{
+    match selector {
+        Selector::ByName(_) => Ok(()),
+        Selector::ByClass(class) => add_word(known, class),
+        Selector::ByBoth(_, class) => add_word(known, class),
+    }
+}
+
+/// Returns those words of a text, between white space, that are known.
+fn known_words<'c>(alloc: Global, known: &Words<'_>, classes: &'c [u8]) -> Result<Words<'c>, Memory>
+    ensures { IfOk result (λ words. HasKnownClasses known.now words classes.now) }
+{
+    let mut words = BTreeMap::new(alloc);
+    let mut rest = classes;
+    'words: loop {
+        let size = find_white(rest);
+        add_known(known, &rest[..size], &mut words)?;
+        if size == rest.len() {
+            return Ok(words);
+        }
+        rest = &rest[size + 1..];
+    }
+}
+
+fn add_known<'c>(known: &Words<'_>, word: &'c [u8], words: &mut Words<'c>) -> Result<(), Memory>
+    ensures { OnOk result (AddsKnown known.now words.old word.now words.new) }
+{
+    if has_word_of(known, word) {
+        add_word(words, word)
+    } else {
+        Ok(())
+    }
+}
+
 /// Returns the words of a text, between white space.
-fn class_words(alloc: Global, classes: &[u8]) -> Result<Words<'_>, Memory>
+fn all_words(alloc: Global, classes: &[u8]) -> Result<Words<'_>, Memory>
     ensures { IfOk result (λ words. HasClasses words classes.now) }
 {
     let mut words = BTreeMap::new(alloc);

@@ -9,7 +9,7 @@ use Rattle.std.proofs.lemmas.List.{take_rest, length-drop}
 use Rattle.style_wash.specs.Characters.{is_white}
 use Rattle.style_rules.specs.Steps.{has_word}
 use Rattle.style_rules.proofs.Last.{classes_begin, classes_end, classes_go_on, is_among_words}
-use Rattle.style_rules.proofs.cascade.class_words.Goals as goal
+use Rattle.style_rules.proofs.cascade.all_words.Goals as goal
 
 pub words-init : goal.words-init
 words-init c = record {

@@ -4,7 +4,7 @@ use Rattle.style_wash.specs.Characters.{is_white}
 use Rattle.style_rules.specs.Cascade.{has_class}
 use Rattle.style_rules.specs.Steps.{has_word}
 use Rattle.style_rules.proofs.Last.{is_among_words}
-use Rattle.style_rules.proofs.cascade.class_words.Given as goal
+use Rattle.style_rules.proofs.cascade.all_words.Given as goal
 
 abbrev pub invariant-words : goal.invariant-words
 invariant-words l = record {
