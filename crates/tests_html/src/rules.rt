@@ -124,3 +124,26 @@ fn declares_at_most_1024_bytes(rt: HostRuntime) -> Result<(), Fail> {
     }
     Ok(())
 }
+
+#[test]
+fn reads_long_classes(rt: HostRuntime) -> Result<(), Fail> {
+    let alloc = rt.alloc();
+    for (count, want) in [
+        (2000, "color: red; margin: 0"),
+        (3000, "color: red; margin: 0"),
+    ] {
+        let mut classes = String::new(alloc);
+        for _i in 0..count {
+            classes.push_str("a ")?;
+        }
+        classes.push_str("x")?;
+        let mut rules = Rules::new(alloc);
+        rules.read(
+            alloc,
+            ".x{color:red}b.x{margin:0}.y{width:1px}i.a{height:1px}",
+        )?;
+        let style = rules.declared(alloc, "b", &classes)?;
+        assert_eq!(rt; style.as_str(), want, "{count}");
+    }
+    Ok(())
+}
