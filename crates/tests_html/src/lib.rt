@@ -10,6 +10,8 @@ mod pages;
 #[cfg(test)]
 mod pieces;
 #[cfg(test)]
+mod rules;
+#[cfg(test)]
 mod styles;
 #[cfg(test)]
 mod tables;
