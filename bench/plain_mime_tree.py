@@ -191,7 +191,7 @@ def tree_of(message):
     return root.content["mime"] == "multipart/alternative", parts
 
 
-READ = {"utf-8", "utf8", "us-ascii", "ascii", "iso-8859-1", "latin1"}
+READ = {"utf-8", "utf8", "us-ascii", "ascii", "iso-8859-1", "latin1", "windows-1252", "cp1252", "iso-8859-15", "latin9"}
 
 
 def is_text(part):

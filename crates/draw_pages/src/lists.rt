@@ -4,6 +4,7 @@ use folder_pages::{folder_page, list_page, search_page, thread_page};
 use imap_commands::{UidRange, UidSet};
 use mail_io::Memory;
 use mail_pages::{PageBytes, Text};
+use mailbox_rows::ViewFault;
 use std::alloc::Global;
 
 /// The UIDVALIDITY of the folder.
@@ -34,21 +35,25 @@ pub fn folders(alloc: Global) -> Result<PageBytes, Memory> {
     folder_page(alloc, &mailbox::folders(alloc)?)
 }
 
-pub fn list(alloc: Global) -> Result<PageBytes, Memory> {
-    list_page(alloc, &folder(alloc)?, VALIDITY, &mailbox::rows(alloc)?, 1)
+pub fn list(alloc: Global) -> Result<PageBytes, ViewFault> {
+    let mailbox = mailbox::filled(alloc)?;
+    let page = list_page(alloc, &folder(alloc)?, VALIDITY, mailbox.rows(), 1)?;
+    Ok(page)
 }
 
 /// The page of a search that found some of the messages.
-pub fn search(alloc: Global) -> Result<PageBytes, Memory> {
+pub fn search(alloc: Global) -> Result<PageBytes, ViewFault> {
     let mut ranges = Vec::new(alloc);
     ranges.push(UidRange::between(2, 5))?;
     ranges.push(UidRange::between(9, 9))?;
     let found = UidSet::of(alloc, ranges)?;
-    let rows = mailbox::rows(alloc)?;
-    search_page(alloc, &folder(alloc)?, VALIDITY, &rows, &found, 1)
+    let mailbox = mailbox::filled(alloc)?;
+    let page = search_page(alloc, &folder(alloc)?, VALIDITY, mailbox.rows(), &found, 1)?;
+    Ok(page)
 }
 
-pub fn threads(alloc: Global) -> Result<PageBytes, Memory> {
-    let rows = mailbox::rows(alloc)?;
-    thread_page(alloc, &folder(alloc)?, VALIDITY, &rows, &FLAT, 1)
+pub fn threads(alloc: Global) -> Result<PageBytes, ViewFault> {
+    let mailbox = mailbox::filled(alloc)?;
+    let page = thread_page(alloc, &folder(alloc)?, VALIDITY, mailbox.rows(), &FLAT, 1)?;
+    Ok(page)
 }

@@ -1,9 +1,8 @@
 //! A made-up mailbox.
 use mail_io::Memory;
 use mail_values::{Bytes, Words};
-use mailbox_rows::{Folder, Row};
+use mailbox_rows::{Folder, Mailbox, Row, ViewFault};
 use std::alloc::Global;
-use std::collections::BTreeMap;
 
 /// The name and the attribute of each folder.
 const FOLDERS: [(&str, &str); 12] = [
@@ -123,11 +122,16 @@ pub fn row(alloc: Global, flag: &str, size: u64, header: &str) -> Result<Row, Me
     })
 }
 
-/// The messages by their UIDs.
-pub fn rows(alloc: Global) -> Result<BTreeMap<u32, Row>, Memory> {
-    let mut rows = BTreeMap::new(alloc);
+/// A folder that has no messages yet.
+pub fn empty(alloc: Global) -> Result<Mailbox, Memory> {
+    Ok(Mailbox::new(alloc, bytes(alloc, "Choir & Café")?))
+}
+
+/// The folder with its messages.
+pub fn filled(alloc: Global) -> Result<Mailbox, ViewFault> {
+    let mut mailbox = empty(alloc)?;
     for (uid, flag, size, header) in MESSAGES {
-        rows.insert(uid, row(alloc, flag, size, header)?)?;
+        mailbox.put(uid, row(alloc, flag, size, header)?)?;
     }
-    Ok(rows)
+    Ok(mailbox)
 }

@@ -9,8 +9,9 @@ mod mailbox;
 mod message;
 mod repeated;
 
-use mail_io::{Memory, WriterSink};
+use mail_io::WriterSink;
 use mail_pages::{PageBytes, WRITE_ROOM, write_page};
+use mailbox_rows::ViewFault;
 use site_asks::How;
 use std::alloc::Global;
 use std::io::Read;
@@ -25,9 +26,13 @@ fn main(rt: HostRuntime) -> io::Result<ExitCode> {
     let words = env::args(&rt)?.skip(1).collect::<Vec<String>>(rt.alloc())?;
     let mut input = Vec::new(rt.alloc());
     rt.stdin().read_to_end(&mut input)?;
-    let Some(page) = draw(rt.alloc(), &words, &input)? else {
-        eprintln!(rt; "{USAGE}")?;
-        return Ok(ExitCode::from(2));
+    let page = match draw(rt.alloc(), &words, &input) {
+        Ok(Some(page)) => page,
+        Ok(None) => {
+            eprintln!(rt; "{USAGE}")?;
+            return Ok(ExitCode::from(2));
+        }
+        Err(_) => return Ok(ExitCode::FAILURE),
     };
     let mut room = Vec::with_capacity(rt.alloc(), WRITE_ROOM)?;
     match write_page(&mut WriterSink::new(rt.stdout()), &page, &mut room) {
@@ -37,7 +42,7 @@ fn main(rt: HostRuntime) -> io::Result<ExitCode> {
 }
 
 /// The page that the words name, if there is one.
-fn draw(alloc: Global, words: &[String], input: &[u8]) -> Result<Option<PageBytes>, Memory> {
+fn draw(alloc: Global, words: &[String], input: &[u8]) -> Result<Option<PageBytes>, ViewFault> {
     let kind = words.first().map_or("", |word| word.as_str());
     let section = words.get(1).map_or("", |word| word.as_str());
     match kind {
@@ -50,8 +55,8 @@ fn draw(alloc: Global, words: &[String], input: &[u8]) -> Result<Option<PageByte
         "repeat-threads" => {
             repeated::threads(alloc, number(words, 1), number(words, 2), number(words, 3))
         }
-        "show" => message::show(alloc, input, section, false),
-        "show-images" => message::show(alloc, input, section, true),
+        "show" => Ok(message::show(alloc, input, section, false)?),
+        "show-images" => Ok(message::show(alloc, input, section, true)?),
         "reply" => Ok(Some(forms::made_from(alloc, input, How::Reply)?)),
         "forward" => Ok(Some(forms::made_from(alloc, input, How::Forward)?)),
         _ => draw_fixed(alloc, kind),
@@ -67,7 +72,7 @@ fn number(words: &[String], place: usize) -> u32 {
 }
 
 /// The page of a kind that is made without a message.
-fn draw_fixed(alloc: Global, kind: &str) -> Result<Option<PageBytes>, Memory> {
+fn draw_fixed(alloc: Global, kind: &str) -> Result<Option<PageBytes>, ViewFault> {
     let page = match kind {
         "folders" => lists::folders(alloc)?,
         "list" => lists::list(alloc)?,

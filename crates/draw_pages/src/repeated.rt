@@ -4,20 +4,19 @@ use crate::mailbox;
 use folder_pages::{list_page, thread_page};
 use mail_io::Memory;
 use mail_pages::PageBytes;
-use mailbox_rows::Row;
+use mailbox_rows::{Mailbox, ViewFault};
 use std::alloc::Global;
-use std::collections::BTreeMap;
 
 const HEADER: &str =
     "From: Bea Frei <bea@college.example>\r\nSubject: =?utf-8?q?Proben_im_Caf=C3=A9?=\r\nDate: Mon, 5 Jan 2026 08:15:00 +0000\r\n\r\n";
 
-/// Messages with the UIDs from 1 on.
-fn rows(alloc: Global, count: u32) -> Result<BTreeMap<u32, Row>, Memory> {
-    let mut rows = BTreeMap::new(alloc);
+/// A folder with messages of the UIDs from 1 on.
+fn filled(alloc: Global, count: u32) -> Result<Mailbox, ViewFault> {
+    let mut mailbox = mailbox::empty(alloc)?;
     for uid in 1..=count {
-        rows.insert(uid, mailbox::row(alloc, "\\Seen", 1_204, HEADER)?)?;
+        mailbox.put(uid, mailbox::row(alloc, "\\Seen", 1_204, HEADER)?)?;
     }
-    Ok(rows)
+    Ok(mailbox)
 }
 
 /// Threads of one message each.
@@ -30,12 +29,17 @@ fn flat(alloc: Global, count: u32) -> Result<Vec<(u32, u32)>, Memory> {
 }
 
 /// Draws a page of a list some times, and returns the last one.
-pub fn list(alloc: Global, count: u32, times: u32, page: u32) -> Result<Option<PageBytes>, Memory> {
-    let rows = rows(alloc, count)?;
+pub fn list(
+    alloc: Global,
+    count: u32,
+    times: u32,
+    page: u32,
+) -> Result<Option<PageBytes>, ViewFault> {
+    let mailbox = filled(alloc, count)?;
     let folder = folder(alloc)?;
     let mut drawn = None;
     for _ in 0..times {
-        drawn = Some(list_page(alloc, &folder, VALIDITY, &rows, page)?);
+        drawn = Some(list_page(alloc, &folder, VALIDITY, mailbox.rows(), page)?);
     }
     Ok(drawn)
 }
@@ -46,13 +50,13 @@ pub fn threads(
     count: u32,
     times: u32,
     page: u32,
-) -> Result<Option<PageBytes>, Memory> {
-    let rows = rows(alloc, count)?;
+) -> Result<Option<PageBytes>, ViewFault> {
+    let mailbox = filled(alloc, count)?;
     let flat = flat(alloc, count)?;
     let folder = folder(alloc)?;
     let mut drawn = None;
     for _ in 0..times {
-        drawn = Some(thread_page(alloc, &folder, VALIDITY, &rows, &flat, page)?);
+        drawn = Some(thread_page(alloc, &folder, VALIDITY, mailbox.rows(), &flat, page)?);
     }
     Ok(drawn)
 }

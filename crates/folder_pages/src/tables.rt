@@ -13,11 +13,10 @@ use crate::rows::{depth_class, seen_class, write_message_row};
 use imap_commands::UidSet;
 use itoa::Buffer;
 use mail_values::Text;
-use mailbox_rows::Row;
+use mailbox_rows::Rows;
 use page_frames::{close_page, finish_page, open_page, open_with, write_heading};
 use page_writer::{Memory, PageBytes, PageOut};
 use std::alloc::Global;
-use std::collections::BTreeMap;
 
 /// How many rows a page has.
 const ROWS: usize = 50;
@@ -46,23 +45,22 @@ fn page_count(items: usize) -> usize
     ((items + (ROWS - 1)) / ROWS).max(1)
 }
 
-/// Returns the UIDs on a page of a folder's list, the newest first. It steps over the newer ones alone.
-fn newest_uids(alloc: Global, rows: &BTreeMap<u32, Row>, page: u32) -> Result<Vec<u32>, Memory>
-    ensures { IfOk result (λ uids. uids.items ≡ on_page page (newest_first rows.now.entries)) }
+/// Returns the UIDs on a page of a folder's list, the newest first.
+fn newest_uids(alloc: Global, rows: &Rows, page: u32) -> Result<Vec<u32>, Memory>
+    ensures { IfOk result (λ uids. uids.items ≡ on_page page (newest_first rows.now)) }
 {
-    rows.keys()
-        .rev()
-        .skip(rows_before(page))
-        .take(ROWS)
-        .copied()
-        .collect(alloc)
+    let uids = rows.uids();
+    let end = uids.len().saturating_sub(rows_before(page));
+    let start = end.saturating_sub(ROWS);
+    uids[start..end].iter().rev().copied().collect(alloc)
 }
 
 /// Returns the UIDs of the messages that are in a set, the newest first.
-fn found_uids(alloc: Global, rows: &BTreeMap<u32, Row>, found: &UidSet) -> Result<Vec<u32>, Memory>
-    ensures { IfOk result (λ uids. uids.items ≡ found_first found.now rows.now.entries) }
+fn found_uids(alloc: Global, rows: &Rows, found: &UidSet) -> Result<Vec<u32>, Memory>
+    ensures { IfOk result (λ uids. uids.items ≡ found_first found.now rows.now) }
 {
-    rows.keys()
+    rows.uids()
+        .iter()
         .rev()
         .filter(|uid| found.contains(**uid))
         .copied()
@@ -76,13 +74,13 @@ fn write_list_row(
     out: &mut PageOut,
     folder: &str,
     validity: u32,
-    rows: &BTreeMap<u32, Row>,
+    rows: &Rows,
     uid: u32,
 ) -> Result<(), Memory>
     requires { IsTrue (takes_tags out.old.opened) }
-    ensures { OnOk result (out.new ≡ with_tokens out.old (list_row folder.now validity rows.now.entries uid) out.old.opened) }
+    ensures { OnOk result (out.new ≡ with_tokens out.old (list_row folder.now validity rows.now uid) out.old.opened) }
 {
-    match rows.get(&uid) {
+    match rows.get(uid) {
         Some(row) => write_message_row(alloc, out, folder, validity, seen_class(row), uid, row),
         None => Ok(()),
     }
@@ -93,11 +91,11 @@ fn write_list_rows(
     out: &mut PageOut,
     folder: &str,
     validity: u32,
-    rows: &BTreeMap<u32, Row>,
+    rows: &Rows,
     uids: &[u32],
 ) -> Result<(), Memory>
     requires { IsTrue (takes_tags out.old.opened) }
-    ensures { OnOk result (out.new ≡ with_tokens out.old (flat_map (list_row folder.now validity rows.now.entries) uids.now) out.old.opened) }
+    ensures { OnOk result (out.new ≡ with_tokens out.old (flat_map (list_row folder.now validity rows.now) uids.now) out.old.opened) }
 {
     for uid in uids {
         write_list_row(alloc, out, folder, validity, rows, *uid)?;
@@ -112,14 +110,14 @@ fn write_thread_row(
     out: &mut PageOut,
     folder: &str,
     validity: u32,
-    rows: &BTreeMap<u32, Row>,
+    rows: &Rows,
     entry: (u32, u32),
 ) -> Result<(), Memory>
     requires { IsTrue (takes_tags out.old.opened) }
-    ensures { OnOk result (out.new ≡ with_tokens out.old (thread_row folder.now validity rows.now.entries entry) out.old.opened) }
+    ensures { OnOk result (out.new ≡ with_tokens out.old (thread_row folder.now validity rows.now entry) out.old.opened) }
 {
     let (uid, depth) = entry;
-    match rows.get(&uid) {
+    match rows.get(uid) {
         Some(row) => {
             let class = depth_class(alloc, depth)?;
             write_message_row(alloc, out, folder, validity, &class, uid, row)
@@ -133,11 +131,11 @@ fn write_thread_rows(
     out: &mut PageOut,
     folder: &str,
     validity: u32,
-    rows: &BTreeMap<u32, Row>,
+    rows: &Rows,
     flat: &[(u32, u32)],
 ) -> Result<(), Memory>
     requires { IsTrue (takes_tags out.old.opened) }
-    ensures { OnOk result (out.new ≡ with_tokens out.old (flat_map (thread_row folder.now validity rows.now.entries) flat.now) out.old.opened) }
+    ensures { OnOk result (out.new ≡ with_tokens out.old (flat_map (thread_row folder.now validity rows.now) flat.now) out.old.opened) }
 {
     for entry in flat {
         write_thread_row(alloc, out, folder, validity, rows, *entry)?;
@@ -199,14 +197,14 @@ fn uids_page(
     alloc: Global,
     folder: &str,
     validity: u32,
-    rows: &BTreeMap<u32, Row>,
+    rows: &Rows,
     uids: &[u32],
     page: u32,
     items: usize,
 ) -> Result<PageBytes, Memory>
     requires { items < 2 ^ 63 }
-    ensures equals { IfOk result (λ bytes. bytes ≡ encode_utf8_all (spell (table_page folder.now (flat_map (list_row folder.now validity rows.now.entries) uids.now) page items))) }
-    ensures is_safe { OnOk result (IsFramePage (table_page folder.now (flat_map (list_row folder.now validity rows.now.entries) uids.now) page items)) }
+    ensures equals { IfOk result (λ bytes. bytes ≡ encode_utf8_all (spell (table_page folder.now (flat_map (list_row folder.now validity rows.now) uids.now) page items))) }
+    ensures is_safe { OnOk result (IsFramePage (table_page folder.now (flat_map (list_row folder.now validity rows.now) uids.now) page items)) }
 {
     let mut out = PageOut::new(alloc);
     open_table(alloc, &mut out, folder)?;
@@ -217,17 +215,17 @@ fn uids_page(
 
 /// Returns the page of a folder's list, 50 messages a page, the newest first. `rows` are those of the folder with this UIDVALIDITY.
 ///
-/// Its cost is that of its own rows and of a step over each newer one; the headers of other rows aren't read.
+/// Its cost is that of its own rows: they are taken from their place, and other rows are neither read nor stepped over.
 #[tactic(auto, unfolding(crate::specs::Tables::list_page))]
 pub fn list_page(
     alloc: Global,
     folder: &Text,
     validity: u32,
-    rows: &BTreeMap<u32, Row>,
+    rows: &Rows,
     page: u32,
 ) -> Result<PageBytes, Memory>
-    ensures equals { IfOk result (λ bytes. bytes ≡ encode_utf8_all (spell (list_page folder.now validity rows.now.entries page))) }
-    ensures is_safe { OnOk result (IsFramePage (list_page folder.now validity rows.now.entries page)) }
+    ensures equals { IfOk result (λ bytes. bytes ≡ encode_utf8_all (spell (list_page folder.now validity rows.now page))) }
+    ensures is_safe { OnOk result (IsFramePage (list_page folder.now validity rows.now page)) }
 {
     let uids = newest_uids(alloc, rows, page)?;
     uids_page(
@@ -243,18 +241,18 @@ pub fn list_page(
 
 /// Returns the page of the messages of a folder that a search found, 50 messages a page, the newest first.
 ///
-/// It looks each UID of the folder up in the set.
+/// It looks each UID of the folder up in the set, and reads the rows of its page alone.
 #[tactic(auto, unfolding(crate::specs::Tables::search_page))]
 pub fn search_page(
     alloc: Global,
     folder: &Text,
     validity: u32,
-    rows: &BTreeMap<u32, Row>,
+    rows: &Rows,
     found: &UidSet,
     page: u32,
 ) -> Result<PageBytes, Memory>
-    ensures equals { IfOk result (λ bytes. bytes ≡ encode_utf8_all (spell (search_page folder.now validity rows.now.entries found.now page))) }
-    ensures is_safe { OnOk result (IsFramePage (search_page folder.now validity rows.now.entries found.now page)) }
+    ensures equals { IfOk result (λ bytes. bytes ≡ encode_utf8_all (spell (search_page folder.now validity rows.now found.now page))) }
+    ensures is_safe { OnOk result (IsFramePage (search_page folder.now validity rows.now found.now page)) }
 {
     let uids = found_uids(alloc, rows, found)?;
     let shown = on_page(&uids, page);
@@ -277,12 +275,12 @@ pub fn thread_page(
     alloc: Global,
     folder: &Text,
     validity: u32,
-    rows: &BTreeMap<u32, Row>,
+    rows: &Rows,
     flat: &[(u32, u32)],
     page: u32,
 ) -> Result<PageBytes, Memory>
-    ensures equals { IfOk result (λ bytes. bytes ≡ encode_utf8_all (spell (thread_page folder.now validity rows.now.entries flat.now page))) }
-    ensures is_safe { OnOk result (IsFramePage (thread_page folder.now validity rows.now.entries flat.now page)) }
+    ensures equals { IfOk result (λ bytes. bytes ≡ encode_utf8_all (spell (thread_page folder.now validity rows.now flat.now page))) }
+    ensures is_safe { OnOk result (IsFramePage (thread_page folder.now validity rows.now flat.now page)) }
 {
     let mut out = PageOut::new(alloc);
     open_table(alloc, &mut out, folder.as_str())?;

@@ -62,7 +62,7 @@ fn list_mailbox(alloc: Global, text: &mut String, mailbox: &Mailbox) -> Result<(
     write!(text, "selected {validity} {mark} ")?;
     text.push_str(name.as_str())?;
     text.push('\n')?;
-    for (uid, row) in mailbox.rows() {
+    for (uid, row) in mailbox.rows().iter() {
         list_row(alloc, text, *uid, row)?;
     }
     Ok(())

@@ -23,7 +23,7 @@ pub fn write_body(
 {
     match charset {
         Charset::Utf8 => write_utf8(alloc, out, bytes),
-        Charset::Ascii | Charset::Latin1 => {
+        Charset::Ascii | Charset::Latin1 | Charset::Windows1252 | Charset::Latin9 => {
             let text = text_of(alloc, charset, bytes)?;
             write_lines(alloc, out, &text)
         }

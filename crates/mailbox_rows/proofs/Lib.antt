@@ -1,2 +1,3 @@
 mod Examples
 pub mod RowLemmas
+pub mod UidLemmas

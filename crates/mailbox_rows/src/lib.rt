@@ -7,7 +7,10 @@
 pub mod fault;
 pub mod mailbox;
 pub mod row;
+mod row_map;
+pub mod rows;
 
 pub use fault::ViewFault;
 pub use mailbox::Mailbox;
 pub use row::{Fields, Folder, Row};
+pub use rows::Rows;

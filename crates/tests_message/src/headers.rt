@@ -67,7 +67,7 @@ fn finds_the_first_of_a_name(rt: HostRuntime) -> Result<(), Fail> {
 }
 
 /// Values with encoded words, and their texts.
-const WORDS: [(&[u8], &str); 16] = [
+const WORDS: [(&[u8], &str); 17] = [
     (
         b"=?utf-8?Q?Caf=C3=A9_week?= at the =?iso-8859-1?b?6Q==?=!",
         "Caf\u{E9} week at the \u{E9}!",
@@ -77,6 +77,10 @@ const WORDS: [(&[u8], &str); 16] = [
         "one two.",
     ),
     (b"(=?iso-8859-1?q?a=E9?= b)", "(a\u{E9} b)"),
+    (
+        b"=?Windows-1252?q?=93a=94?= =?iso-8859-15?b?pA==?=",
+        "\u{201C}a\u{201D}\u{20AC}",
+    ),
     (
         b"=?utf-8?q?_a_?= =?x-none?q?b?= =?utf-8?q??=",
         "a  =?x-none?q?b?= =?utf-8?q??=",

@@ -3,9 +3,8 @@ use crate::pages::{framed, is_page};
 use folder_pages::{Memory, list_page, search_page, thread_page};
 use imap_commands::{UidRange, UidSet};
 use mail_values::{Bytes, Text, Words};
-use mailbox_rows::Row;
+use mailbox_rows::{Mailbox, Row, ViewFault};
 use std::alloc::Global;
-use std::collections::BTreeMap;
 use std::test::*;
 
 /// A message that was read, with this header.
@@ -22,13 +21,13 @@ fn seen_row(alloc: Global, header: &[u8]) -> Result<Row, Memory> {
 }
 
 /// Two messages, one with a date of its own.
-fn two_rows(alloc: Global) -> Result<BTreeMap<u32, Row>, Memory> {
-    let mut rows = BTreeMap::new(alloc);
+fn two_messages(alloc: Global) -> Result<Mailbox, ViewFault> {
+    let mut mailbox = Mailbox::new(alloc, Bytes::from_slice(alloc, b"INBOX")?);
     let dated = seen_row(alloc, b"Date: Fri, 2 Jan 2026 09:00:00 +0000\r\n\r\n")?;
-    rows.insert(7, dated)?;
+    mailbox.put(7, dated)?;
     let plain = seen_row(alloc, b"From: a@b.example\r\nSubject: s\r\n\r\n")?;
-    rows.insert(5, plain)?;
-    Ok(rows)
+    mailbox.put(5, plain)?;
+    Ok(mailbox)
 }
 
 const DATED: &str =
@@ -51,7 +50,8 @@ fn table(alloc: Global, rows: &[(&str, &str)], pages: &str) -> Result<String, Me
 fn lists_the_newest_first(rt: HostRuntime) -> Result<(), Fail> {
     let alloc: Global = rt.alloc();
     let folder = Text::from_text(alloc, "INBOX")?;
-    let page = list_page(alloc, &folder, 8, &two_rows(alloc)?, 1)?;
+    let mailbox = two_messages(alloc)?;
+    let page = list_page(alloc, &folder, 8, mailbox.rows(), 1)?;
     let want = table(alloc, &[("seen", DATED), ("seen", PLAIN)], "Page 1 of 1")?;
     assert!(rt; is_page(&page, &want));
     Ok(())
@@ -64,7 +64,8 @@ fn lists_what_was_found(rt: HostRuntime) -> Result<(), Fail> {
     let mut ranges = Vec::new(alloc);
     ranges.push(UidRange::between(1, 6))?;
     let found = UidSet::of(alloc, ranges)?;
-    let page = search_page(alloc, &folder, 8, &two_rows(alloc)?, &found, 1)?;
+    let mailbox = two_messages(alloc)?;
+    let page = search_page(alloc, &folder, 8, mailbox.rows(), &found, 1)?;
     let want = table(alloc, &[("seen", PLAIN)], "Page 1 of 1")?;
     assert!(rt; is_page(&page, &want));
     Ok(())
@@ -74,7 +75,8 @@ fn lists_what_was_found(rt: HostRuntime) -> Result<(), Fail> {
 fn lists_threads(rt: HostRuntime) -> Result<(), Fail> {
     let alloc: Global = rt.alloc();
     let folder = Text::from_text(alloc, "INBOX")?;
-    let page = thread_page(alloc, &folder, 8, &two_rows(alloc)?, &[(5, 0), (7, 17)], 1)?;
+    let mailbox = two_messages(alloc)?;
+    let page = thread_page(alloc, &folder, 8, mailbox.rows(), &[(5, 0), (7, 17)], 1)?;
     let want = table(alloc, &[("d0", PLAIN), ("d16", DATED)], "Page 1 of 1")?;
     assert!(rt; is_page(&page, &want));
     Ok(())

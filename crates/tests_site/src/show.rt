@@ -226,6 +226,22 @@ fn shows_parts(rt: HostRuntime) -> Result<(), Fail> {
             "<li><a href=\"/part/0/0/1?f=\">1</a> text/plain 16</li>",
         ),
         (
+            ["show"].as_slice(),
+            b"Content-Type: text/plain; charset=windows-1252\r\n\r\n\x93a\x94".as_slice(),
+            "(no subject)",
+            "",
+            "<pre>\n\u{201C}a\u{201D}</pre>",
+            "<li><a href=\"/part/0/0/1?f=\">1</a> text/plain 3</li>",
+        ),
+        (
+            ["show"].as_slice(),
+            b"Content-Type: text/plain; charset=ISO-8859-15\r\n\r\n\xA4".as_slice(),
+            "(no subject)",
+            "",
+            "<pre>\n\u{20AC}</pre>",
+            "<li><a href=\"/part/0/0/1?f=\">1</a> text/plain 1</li>",
+        ),
+        (
             ["show", "--part", "1"].as_slice(),
             b"Content-Type: text/plain; charset=koi8-r\r\n\r\nx".as_slice(),
             "(no subject)",

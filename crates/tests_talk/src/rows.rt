@@ -33,7 +33,7 @@ fn folder_of(alloc: Global, uids: &[u32]) -> Result<Mailbox, ViewFault> {
 /// The UIDs with their MODSEQs, and the mark.
 fn shown(alloc: Global, folder: &Mailbox) -> Result<String, Memory> {
     let mut text = String::new(alloc);
-    for (uid, row) in folder.rows() {
+    for (uid, row) in folder.rows().iter() {
         let modseq = row.modseq;
         write!(text, "{uid}:{modseq} ")?;
     }

@@ -185,7 +185,7 @@ fn show_mailbox(text: &mut String, folder: &Mailbox) -> Result<(), Memory> {
         Some(validity) => write!(text, " {validity}:")?,
         None => write!(text, " -:")?,
     }
-    for (uid, row) in folder.rows() {
+    for (uid, row) in folder.rows().iter() {
         let modseq = row.modseq;
         write!(text, " {uid}={modseq}")?;
     }

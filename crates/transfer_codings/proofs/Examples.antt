@@ -1,11 +1,13 @@
 -- Worked examples of the definitions.
 use Rattle.std.proofs.Common.{◌≡◌, [], ◌∷◌, ◌++◌, Some, None, refl}
-use Rattle.std.specs.Prelude.{codes, replicate}
-use Rattle.transfer_codings.specs.declared.charset.Charset.TheVariants.{Utf8, Ascii, Latin1}
+use Rattle.std.specs.Prelude.{codes, map, replicate}
+use Rattle.std.specs.Str.{encode_utf8_all}
+use Rattle.std.specs.List.{range_with_len}
+use Rattle.transfer_codings.specs.declared.charset.Charset.TheVariants.{Utf8, Ascii, Latin1, Windows1252, Latin9}
 use Rattle.transfer_codings.specs.Base64.{base64_bytes, base64_line, base64_lines, base64_text, bytes_of, sextet_of}
 use Rattle.transfer_codings.specs.declared.coding.Coding.TheVariants.{Plain, Base64, Quoted}
 use Rattle.transfer_codings.specs.Codings.{decoded}
-use Rattle.transfer_codings.specs.Charsets.{charset_named, text_in}
+use Rattle.transfer_codings.specs.Charsets.{charset_named, latin9_character, text_in, windows_1252_character}
 use Rattle.base64.specs.Rfc4648.{encode_symbols}
 use Rattle.transfer_codings.specs.Quoted.{line_bytes, quoted_bytes, unescaped, without_blanks}
 use Rattle.transfer_codings.specs.QuotedRows.{broken_lines, quoted_text, rows_text, unit_of}
@@ -119,6 +121,25 @@ us_ascii = refl
 latin1 : charset_named (codes "latin1") ≡ Some Latin1
 latin1 = refl
 
+windows_1252 : charset_named (codes "Windows-1252") ≡ Some Windows1252
+windows_1252 = refl
+
+cp1252 : charset_named (codes "CP1252") ≡ Some Windows1252
+cp1252 = refl
+
+latin9 : charset_named (codes "Latin9") ≡ Some Latin9
+latin9 = refl
+
+iso_8859_15 : charset_named (codes "ISO-8859-15") ≡ Some Latin9
+iso_8859_15 = refl
+
+-- a number that is longer or shorter is another charset
+iso_8859_16 : charset_named (codes "iso-8859-16") ≡ None
+iso_8859_16 = refl
+
+windows_125 : charset_named (codes "windows-125") ≡ None
+windows_125 = refl
+
 no_name : charset_named [] ≡ None
 no_name = refl
 
@@ -135,6 +156,54 @@ latin1_text = refl
 ascii_text : text_in Ascii (codes "a" ++ 0x80 ∷ codes "b") ≡ codes "a" ++ 0xEF ∷ 0xBF ∷ 0xBD ∷ codes "b"
 unfolding lib.Utf8.encode
 ascii_text = refl
+
+-- quotation marks
+quotation_marks : text_in Windows1252 (0x93 ∷ 0x61 ∷ 0x94 ∷ []) ≡ encode_utf8_all (0x201C ∷ 0x61 ∷ 0x201D ∷ [])
+unfolding lib.Utf8.encode windows_1252_character
+quotation_marks = refl
+
+-- the bytes 80 to 9F, in order: five of them are the numbers of their characters
+high_controls : map windows_1252_character (range_with_len 0x80 32)
+    ≡ 0x20AC ∷ 0x81 ∷ 0x201A ∷ 0x0192 ∷ 0x201E ∷ 0x2026 ∷ 0x2020 ∷ 0x2021
+    ∷ 0x02C6 ∷ 0x2030 ∷ 0x0160 ∷ 0x2039 ∷ 0x0152 ∷ 0x8D ∷ 0x017D ∷ 0x8F
+    ∷ 0x90 ∷ 0x2018 ∷ 0x2019 ∷ 0x201C ∷ 0x201D ∷ 0x2022 ∷ 0x2013 ∷ 0x2014
+    ∷ 0x02DC ∷ 0x2122 ∷ 0x0161 ∷ 0x203A ∷ 0x0153 ∷ 0x9D ∷ 0x017E ∷ 0x0178 ∷ []
+unfolding windows_1252_character
+high_controls = refl
+
+-- the bytes before and after these
+low_bytes : map windows_1252_character (range_with_len 0 128) ≡ range_with_len 0 128
+unfolding windows_1252_character
+low_bytes = refl
+
+high_bytes : map windows_1252_character (range_with_len 0xA0 96) ≡ range_with_len 0xA0 96
+unfolding windows_1252_character
+high_bytes = refl
+
+five_bytes : text_in Windows1252 (0x81 ∷ 0x8D ∷ 0x8F ∷ 0x90 ∷ 0x9D ∷ []) ≡ encode_utf8_all (0x81 ∷ 0x8D ∷ 0x8F ∷ 0x90 ∷ 0x9D ∷ [])
+unfolding lib.Utf8.encode windows_1252_character
+five_bytes = refl
+
+-- the euro sign
+euro_sign : text_in Latin9 (0xA4 ∷ []) ≡ 0xE2 ∷ 0x82 ∷ 0xAC ∷ []
+unfolding lib.Utf8.encode latin9_character
+euro_sign = refl
+
+-- the eight places at which ISO-8859-15 differs from ISO-8859-1, and the bytes between them
+latin9_differences : map latin9_character (range_with_len 0xA4 27)
+    ≡ 0x20AC ∷ 0xA5 ∷ 0x0160 ∷ 0xA7 ∷ 0x0161 ∷ 0xA9 ∷ 0xAA ∷ 0xAB ∷ 0xAC ∷ 0xAD ∷ 0xAE ∷ 0xAF ∷ 0xB0 ∷ 0xB1 ∷ 0xB2 ∷ 0xB3
+    ∷ 0x017D ∷ 0xB5 ∷ 0xB6 ∷ 0xB7 ∷ 0x017E ∷ 0xB9 ∷ 0xBA ∷ 0xBB ∷ 0x0152 ∷ 0x0153 ∷ 0x0178 ∷ []
+unfolding latin9_character
+latin9_differences = refl
+
+-- ISO-8859-15 has control characters where windows-1252 has quotation marks
+latin9_low_bytes : map latin9_character (range_with_len 0 0xA4) ≡ range_with_len 0 0xA4
+unfolding latin9_character
+latin9_low_bytes = refl
+
+latin9_high_bytes : map latin9_character (range_with_len 0xBF 65) ≡ range_with_len 0xBF 65
+unfolding latin9_character
+latin9_high_bytes = refl
 
 -- ---- what is written
 

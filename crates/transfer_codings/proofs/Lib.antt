@@ -9,3 +9,4 @@ pub mod RowLemmas
 pub mod QuotedEnds
 pub mod QuotedWritten
 pub mod Base64Written
+pub mod CharsetTables

@@ -5,4 +5,4 @@ use Rattle.folder_pages.specs.Tables.{list_row}
 use Rattle.folder_pages.proofs.tables.write_list_rows.Given as goal
 
 abbrev pub invariant-loop-uid : goal.invariant-loop-uid
-invariant-loop-uid l = l.out ≡ with_tokens l.initial.out (flat_map (list_row l.folder l.validity l.rows.entries) (take l.uid-index l.uids)) l.initial.out.opened
+invariant-loop-uid l = l.out ≡ with_tokens l.initial.out (flat_map (list_row l.folder l.validity l.rows) (take l.uid-index l.uids)) l.initial.out.opened

@@ -5,4 +5,4 @@ use Rattle.folder_pages.specs.Tables.{thread_row}
 use Rattle.folder_pages.proofs.tables.write_thread_rows.Given as goal
 
 abbrev pub invariant-loop-entry : goal.invariant-loop-entry
-invariant-loop-entry l = l.out ≡ with_tokens l.initial.out (flat_map (thread_row l.folder l.validity l.rows.entries) (take l.entry-index l.flat)) l.initial.out.opened
+invariant-loop-entry l = l.out ≡ with_tokens l.initial.out (flat_map (thread_row l.folder l.validity l.rows) (take l.entry-index l.flat)) l.initial.out.opened

@@ -1,15 +1,12 @@
-use Rattle.std.proofs.Common.{ap, sym, ◌∙◌}
-use Rattle.mailbox_rows.specs.Mailboxes.{with_rows, MailboxState}
-use Rattle.mailbox_rows.proofs.RowLemmas.{split_first, vanish_more, vanish_end, from_same}
+use Rattle.std.proofs.Common.{ℕ, ap, arith, length}
+use Rattle.imap_commands.specs.UidSets.{contains_uid}
+use Rattle.mailbox_rows.specs.Rows.{header_total}
+use Rattle.mailbox_rows.proofs.UidLemmas.{without_shorter, without_total}
 use Rattle.mailbox_rows.proofs.mailbox.Mailbox.vanish.Goals as goal
 
-pub loop-rest-preserved : goal.loop-rest-preserved
-loop-rest-preserved c =
-    let rows = ap (λ (box : MailboxState). box.rows) c.vanish_range.ensures in
-    record {
-      same = ap (λ (box : MailboxState). with_rows box c.args.self.now.rows) c.vanish_range.ensures ∙ c.loop-rest.invariant.same;
-      gone = vanish_more c.loop-rest.rest.now _ _ c.loop-rest.self.rows _ _ rows (split_first c.loop-rest.rest.now _ c.in-len1-up.len_at_least) c.loop-rest.invariant.gone;
-    }
-
-pub returns : goal.returns
-returns c = from_same c.loop-rest.self c.args.self.now _ c.loop-rest.invariant.same (sym (vanish_end c.loop-rest.rest.now c.loop-rest.self.rows c.in_default.len_below) ∙ c.loop-rest.invariant.gone)
+pub invariant_of-self : goal.invariant_of-self
+invariant_of-self c =
+    let gone = λ (uid : ℕ). contains_uid uid c.args.set.now in
+    let len = ap length c.vanish.ensures in
+    let total = ap header_total c.vanish.ensures in
+    (omega (arith, len, without_shorter gone c.self.inside.rows, c.self.invariant.0), omega (arith, total, without_total gone c.self.inside.rows, c.self.invariant.1))

@@ -1,0 +1,3 @@
+pub mod ChangeLaws
+mod RecordExamples
+pub mod RecordLemmas
