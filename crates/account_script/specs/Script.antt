@@ -1,7 +1,7 @@
 -- What each step of a script comes to, after what was told (RFC 9051 §6, RFC 7162 §3.2.5).
 use Rattle.std.specs.Prelude.{ℕ, ◌+◌, ◌-◌, ◌^◌, min, ◌==◌, nat_lt, Bool, true, false, if◌then◌else◌, List, [], length, slice_get, Option, Some, None}
 use Rattle.std.specs.List.{list_any}
-use Rattle.std.specs.Map.{lookup}
+use Rattle.std.specs.Map.{keys_of, lookup}
 use Rattle.std.specs.Option.{unwrap_or, option_map}
 use Rattle.std.specs.Str.{bytes_eq}
 use Rattle.account_pictures.specs.declared.records.Address.{Address}
@@ -64,17 +64,13 @@ abbrev pub rows_of : Option MailboxState → Rows
 rows_of None = []
 rows_of (Some box) = box.rows
 
--- rows ascend by UID
-abbrev pub last_row : Rows → Option (ℕ × Row)
-last_row rows = slice_get rows (length rows - 1)
+-- the last of some numbers, 0 if there is none
+abbrev pub last_of : List ℕ → ℕ
+last_of numbers = unwrap_or (slice_get numbers (length numbers - 1)) 0
 
-abbrev pub uid_of : Option (ℕ × Row) → ℕ
-uid_of None = 0
-uid_of (Some entry) = entry.0
-
--- the first UID after the rows, or the greatest that there is
+-- the first UID after those of the rows, which ascend, or the greatest that there is
 abbrev pub next_uid : Rows → ℕ
-next_uid rows = min (uid_of (last_row rows) + 1) (2 ^ 32 - 1)
+next_uid rows = min (last_of (keys_of rows) + 1) (2 ^ 32 - 1)
 
 abbrev pub fetch_new_act : List ℕ → ToldState → Act
 fetch_new_act name t = act.Say (command.FetchNew (next_uid (rows_of (box_named name t.view.boxes))))

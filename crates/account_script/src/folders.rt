@@ -3,7 +3,7 @@ ghost use Rattle.std.specs.Prelude.{◌≡◌, IfOk, IfSome, IfNone, Some, None}
 ghost use Rattle.std.specs.Str.{bytes_eq};
 ghost use Rattle.mailbox_view.specs.Selections.{box_named};
 ghost use Rattle.account_script.specs.Asks.{folder_of, folder_in, address_of};
-ghost use Rattle.account_script.specs.Script.{has_folder, is_selected, known_of, mark_of, next_uid, last_row, rows_of, row_of, validity_of, body_of};
+ghost use Rattle.account_script.specs.Script.{body_of, has_folder, is_selected, known_of, mark_of, next_uid, row_of, rows_of, validity_of};
 
 use account_pictures::Address;
 use imap_commands::Known;
@@ -98,7 +98,7 @@ pub fn row_of<'a, 'b>(told: &'a Told, at: &'b Address) -> Option<&'a Row>
     ensures some { IfSome result (λ row. row_of at.now.uid (box_named at.now.folder told.now.view.boxes) ≡ Some row.now) }
     ensures none { IfNone result (row_of at.now.uid (box_named at.now.folder told.now.view.boxes) ≡ None) }
 {
-    mailbox_of(told, at.folder.as_str())?.rows().get(&at.uid)
+    mailbox_of(told, at.folder.as_str())?.rows().get(at.uid)
 }
 
 /// Returns the first UID after the rows of a folder, or the greatest that there is.
@@ -114,8 +114,8 @@ pub fn next_uid(told: &Told, name: &str) -> u32
 fn uid_after(mailbox: &Mailbox) -> u32
     ensures { result ≡ next_uid mailbox.now.rows }
 {
-    match mailbox.rows().last_key_value() {
-        Some((uid, _)) => uid.saturating_add(1),
+    match mailbox.rows().uids().last() {
+        Some(uid) => uid.saturating_add(1),
         None => 1,
     }
 }

@@ -3,14 +3,15 @@ use Rattle.std.proofs.Common.{◌≡◌, ℕ, ◌+◌, ◌<◌, ◌≤◌, ◌^�
 use Rattle.std.specs.Prelude.{nat_le, ◌==◌}
 use Rattle.std.specs.Global.{Vec}
 use Rattle.std.specs.List.{concat, AllByRecursion}
-use Rattle.std.proofs.lemmas.List.{drop_more, drop_all, take_more, take-append-drop, length-map}
+use Rattle.std.proofs.lemmas.List.{drop_more, drop_all, take_more, take-append-drop}
 use Rattle.std.proofs.lemmas.Bool.{cases_Bool}
-use Rattle.std.proofs.lemmas.Bool.Decides.{leb_tells}
+use Rattle.std.proofs.lemmas.Bool.Decides.{leb_tells, nat_tests}
 use Rattle.account_pictures.specs.declared.talk.Piece.{Piece}
 use Rattle.account_pictures.specs.declared.talk.Piece.TheVariants.{Said}
 use Rattle.imap_commands.specs.declared.command.Command.{Command}
 use Rattle.imap_commands.specs.Commands.{command_pieces}
 use Rattle.imap_commands.specs.ReadBack.{FitsFieldTypes, written_form}
+use Rattle.imap_commands.specs.Pieces.{onto_first, pieces_of}
 use Rattle.imap_commands.specs.Written.{bytes_of_vecs}
 use Rattle.imap_commands.proofs.NonemptyLemmas.{command_pieces_nonempty}
 use Rattle.command_pieces.specs.ReadBack.{spoken_before}
@@ -188,3 +189,90 @@ speaks_done before last e more fresh p ear u s = record { errand = s.errand; see
 pub speaks_first : (pieces : List (List ℕ)) (last : Last) (more : List Step) (p : Progress) (ear : TalkState) (t : Turn) → t.talk.state ≡ ear → ear.told.phase ≡ phase.Idle → 0 < length pieces → due t ≡ Says last pieces more p → Speaks t.errand [] pieces last more t.fresh p ear t
 speaks_first [] last more p ear t is idle some d = absurd (omega arith)
 speaks_first (x ∷ xs) last more p ear t is idle some d = record { errand = refl; state = is; same = refl; said = ap (λ (q : Phase). said_before q t.talk.said) idle; next = d }
+
+-- ---- by the places of the pieces
+
+pub items_at : (pieces : List (Vec ℕ)) (i : ℕ) (d : Vec ℕ) → i < length pieces → (get_or pieces i d).items ≡ get_or (bytes_of_vecs pieces) i []
+items_at [] i d lt = absurd (omega arith)
+items_at (x ∷ xs) zero d lt = refl
+items_at (x ∷ xs) (suc i) d lt = items_at xs i d (omega arith)
+
+pub filled_at : (pieces : List (List ℕ)) (i : ℕ) → i < length pieces → AllByRecursion (λ (piece : List ℕ). 0 < length piece) pieces → 0 < length (get_or pieces i [])
+filled_at [] i lt all = absurd (omega arith)
+filled_at (x ∷ xs) zero lt all = all.0
+filled_at (x ∷ xs) (suc i) lt all = filled_at xs i (omega arith) all.1
+
+pub same_length : (pieces : List (Vec ℕ)) → length (bytes_of_vecs pieces) ≡ length pieces
+same_length [] = refl
+same_length (x ∷ xs) = ap suc (same_length xs)
+
+last_is : (pieces : List (List ℕ)) (i : ℕ) → nat_le (length pieces) i ≡ is_last (drop i pieces)
+last_is pieces i = elim (leb_tells (length pieces) i) [
+  | inl p ↦ rw (p.0, drop_all i pieces p.1) refl
+  | inr p ↦ rw (p.0, drop_more pieces i [] p.1) refl
+]
+
+zero_takes : (i : ℕ) (pieces : List (List ℕ)) → (i == 0) ≡ true → take i pieces ≡ []
+zero_takes zero pieces is = refl
+zero_takes (suc i) pieces is = absurd (let e : suc i ≡ 0 = grind (arith, is) in omega (arith, e))
+
+-- what was said and what is left of all pieces
+pub splits_at : (command : Command) (number : ℕ) (pieces : List (List ℕ)) (i : ℕ) → FitsFieldTypes command → number < 2 ^ 32 → pieces ≡ command_pieces number command → i < length pieces → Splits command number (take i pieces) (get_or pieces i [] ∷ drop (i + 1) pieces)
+splits_at command number pieces i fits small is lt = record {
+  fits = fits;
+  small = small;
+  written = sym is ∙ sym (take-append-drop i pieces) ∙ ap (λ (l : List (List ℕ)). take i pieces ++ l) (drop_more pieces i [] lt);
+}
+
+at_piece : (pieces : List (List ℕ)) (i : ℕ) (last : Last) (e : Errand) (more : List Step) (fresh : Bool) (p : Progress) (ear : TalkState) (u : Turn) → i < length pieces → Speaks e (take i pieces) (drop i pieces) last more fresh p ear u → Speaks e (take i pieces) (get_or pieces i [] ∷ drop (i + 1) pieces) last more fresh p ear u
+at_piece pieces i last e more fresh p ear u lt s = subst (λ (l : List (List ℕ)). Speaks e (take i pieces) l last more fresh p ear u) (drop_more pieces i [] lt) s
+
+-- the next piece was said whole
+pub said_at : (a b : Option (List Piece)) (t : Turn) (pieces : List (List ℕ)) (i : ℕ) (piece : List ℕ) (command : Command) (number : ℕ) (e : Errand) (more : List Step) (fresh : Bool) (p : Progress) (ear new : TalkState) → i < length pieces → FitsFieldTypes command → number < 2 ^ 32 → pieces ≡ command_pieces number command → IsTurnOf (i == 0) number ear
+    → piece ≡ get_or pieces i [] → Speaks e (take i pieces) (drop i pieces) (last_of command) more fresh p ear t → AppendsPiece a b (Said piece) → new ≡ with_uttered (i == 0) (nat_le (length pieces) (i + 1)) command ear
+    → Continues a b t (λ u. Begun e new (last_of command) (drop (i + 1) pieces) (concat (take (i + 1) pieces)) more fresh p u)
+said_at a b t pieces i piece command number e more fresh p ear new lt fits small is turn same s add new_is =
+    subst (λ (l : List (List ℕ)). Continues a b t (λ u. Begun e new (last_of command) (drop (i + 1) pieces) (concat l) more fresh p u)) (sym (take_more pieces i [] lt))
+    (said_one a b t (i == 0) command number (take i pieces) (get_or pieces i []) (drop (i + 1) pieces) e more fresh p ear new (at_piece pieces i (last_of command) e more fresh p ear t lt s) turn (zero_takes i pieces) (splits_at command number pieces i fits small is lt)
+    (subst (λ (x : List ℕ). AppendsPiece a b (Said x)) same add) (new_is ∙ ap (λ (x : Bool). with_uttered (i == 0) x command ear) (last_is pieces (i + 1))))
+
+pub lost_at : (a b : Option (List Piece)) (t : Turn) (pieces : List (List ℕ)) (i : ℕ) (piece : List ℕ) (last : Last) (e : Errand) (more : List Step) (fresh : Bool) (p : Progress) (ear : TalkState) → i < length pieces → piece ≡ get_or pieces i [] → Speaks e (take i pieces) (drop i pieces) last more fresh p ear t → AppendsPiece a b (Said piece) → Continues a b t (λ u. Unit {0})
+lost_at a b t pieces i piece last e more fresh p ear lt same s add =
+    said_lost a b t (get_or pieces i []) (take i pieces) (drop (i + 1) pieces) last e more fresh p ear (at_piece pieces i last e more fresh p ear t lt s) (subst (λ (x : List ℕ). AppendsPiece a b (Said x)) same add)
+
+pub part_at : (a b : Option (List Piece)) (t : Turn) (pieces : List (List ℕ)) (i : ℕ) (piece : List ℕ) (command : Command) (number : ℕ) (e : Errand) (more : List Step) (fresh : Bool) (p : Progress) (ear : TalkState) → i < length pieces → FitsFieldTypes command → number < 2 ^ 32 → pieces ≡ command_pieces number command → piece ≡ get_or pieces i []
+    → Speaks e (take i pieces) (drop i pieces) (last_of command) more fresh p ear t → SaysPrefix a b piece → Continues a b t (λ u. (u.errand ≡ e) × Seen fresh ear u)
+part_at a b t pieces i piece command number e more fresh p ear lt fits small is same s prefix =
+    said_part a b t command number (take i pieces) (get_or pieces i []) (drop (i + 1) pieces) e more fresh p ear (at_piece pieces i (last_of command) e more fresh p ear t lt s) (splits_at command number pieces i fits small is lt)
+    (filled_at pieces i lt (subst (λ (l : List (List ℕ)). AllByRecursion (λ (x : List ℕ). 0 < length x) l) (sym is) (command_pieces_nonempty number command))) (subst (λ (x : List ℕ). SaysPrefix a b x) same prefix)
+
+-- ---- what is awaited next
+
+uttered_number : (first last : Bool) (command : Command) (ear : TalkState) (number : ℕ) → IsTurnOf first number ear → number ≡ (with_uttered first last command ear).told.view.number
+uttered_number true last command ear number (idle, next) = next ∙ sym (first_number last command ear idle)
+uttered_number false last command ear number (owing, same) = same ∙ sym (later_number last command ear owing)
+
+piece_phase : (q : Phase) → is_piece q ≡ true → q ≡ phase.Piece
+piece_phase phase.NotDialled w = cc
+piece_phase phase.Greeting w = cc
+piece_phase phase.Idle w = cc
+piece_phase phase.Request w = cc
+piece_phase phase.Piece w = refl
+piece_phase phase.Answer w = cc
+piece_phase phase.Damaged w = cc
+
+not_first : (i : ℕ) → (i + 1 == 0) ≡ false
+not_first i = grind (arith, nat_tests)
+
+pub awaits_next : (i : ℕ) (last : Bool) (command : Command) (ear said heard : TalkState) (number : ℕ) → IsTurnOf (i == 0) number ear → said ≡ with_uttered (i == 0) last command ear → heard.told.view.number ≡ said.told.view.number → is_piece heard.told.phase ≡ true → IsTurnOf (i + 1 == 0) number heard
+awaits_next i last command ear said heard number turn is same owing =
+    rw (not_first i) (piece_phase heard.told.phase owing, uttered_number (i == 0) last command ear number turn ∙ sym (same ∙ ap (λ (s : TalkState). s.told.view.number) is))
+
+onto_some : (bytes : List ℕ) (pieces : List (List ℕ)) → 0 < length (onto_first bytes pieces)
+onto_some bytes [] = omega arith
+onto_some bytes (x ∷ xs) = omega arith
+
+-- a command has a piece
+pub some_pieces : (number : ℕ) (command : Command) → 0 < length (command_pieces number command)
+unfolding command_pieces pieces_of
+some_pieces number command = onto_some _ _

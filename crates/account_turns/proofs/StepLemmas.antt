@@ -15,8 +15,9 @@ use Rattle.account_script.specs.declared.steps.Step.TheVariants as step
 use Rattle.account_script.specs.Script.{act_of, progress_of}
 use Rattle.account_turns.specs.declared.endings.Ending.{Ending}
 use Rattle.account_turns.specs.declared.endings.Ending.TheVariants.{Done, Stopped, Failed}
-use Rattle.account_turns.specs.Exchanges.{Seen, Spoken}
-use Rattle.account_turns.specs.Steps.{IsFirst, Matches, MayTake, is_unsteady}
+use Rattle.account_turns.specs.Exchanges.{IsIdleAfter, Seen, Spoken}
+use Rattle.account_turns.specs.Causes.{keeps_up}
+use Rattle.account_turns.specs.Steps.{IsFirst, IsReadyAfter, IsUpAfter, Matches, MayTake, is_unsteady}
 use Rattle.account_turns.specs.Turns.{Errand, Turn, due, due_by, ready}
 
 abbrev pub is_dial : Act → Bool
@@ -90,3 +91,41 @@ pub first_steady : (unsteady : Bool) (steps : List Step) → unsteady ≡ false 
 first_steady true steps w = cc
 first_steady false [] w = tt
 first_steady false (one ∷ steps) w = tt
+
+-- an ending with nothing awaited lets a command be said
+pub ready_by : (ending : Ending) (fresh : Bool) (ear : TalkState) → fresh ≡ false → IsIdleAfter ending ear → IsReadyAfter ending (is_unsteady fresh ear)
+ready_by Done fresh ear f idle = steady_of fresh ear f idle
+ready_by (Stopped cause) fresh ear f idle = λ keeps. steady_of fresh ear f (idle keeps)
+ready_by Failed fresh ear f idle = tt
+
+kept_by : (up keeps : Bool) → (up && keeps) ≡ true → keeps ≡ true
+kept_by true keeps w = w
+kept_by false keeps w = cc
+
+pub up_by : (ending : Ending) (up unsteady : Bool) → IsReadyAfter ending unsteady → IsUpAfter ending up unsteady
+up_by Done up unsteady r = λ _. r
+up_by (Stopped cause) up unsteady r = λ w. r (kept_by up (keeps_up cause) w)
+up_by Failed up unsteady r = tt
+
+done_on : (more : List Step) (e : Errand) (fresh : Bool) (p : Progress) (ear : TalkState) (u : Turn) → Spoken e Done more fresh p ear u → Matches e more fresh p ear u
+done_on more e fresh p ear u h = record { errand = h.errand; seen = h.seen; next = h.next }
+
+-- what goes on after a step, by how it ended
+pub goes_on : (ending : Ending) (more : List Step) (e : Errand) (fresh : Bool) (p : Progress) (ear : TalkState) (u : Turn) → ending ≡ Done → Spoken e ending more fresh p ear u → Matches e more fresh p ear u
+goes_on ending more e fresh p ear u is h = done_on more e fresh p ear u (subst (λ (x : Ending). Spoken e x more fresh p ear u) is h)
+
+stop_on : (cause : Cause) (more : List Step) (e : Errand) (fresh : Bool) (p : Progress) (ear : TalkState) (u : Turn) → Spoken e (Stopped cause) more fresh p ear u → Spoken e (Stopped cause) [] fresh p ear u
+stop_on cause more e fresh p ear u h = record { errand = h.errand; seen = h.seen; next = h.next }
+
+pub stops_on : (ending : Ending) (cause : Cause) (more : List Step) (e : Errand) (fresh : Bool) (p : Progress) (ear : TalkState) (u : Turn) → ending ≡ Stopped cause → Spoken e ending more fresh p ear u → Spoken e (Stopped cause) [] fresh p ear u
+stops_on ending cause more e fresh p ear u is h = stop_on cause more e fresh p ear u (subst (λ (x : Ending). Spoken e x more fresh p ear u) is h)
+
+pub fails_on : (ending : Ending) (more : List Step) (e : Errand) (fresh : Bool) (p : Progress) (ear : TalkState) (u : Turn) → Spoken e ending more fresh p ear u → Spoken e Failed [] fresh p ear u
+fails_on ending more e fresh p ear u h = record { errand = h.errand; seen = h.seen; next = tt }
+
+done_as : (e : Errand) (fresh : Bool) (p : Progress) (ear : TalkState) (u : Turn) → Matches e [] fresh p ear u → Spoken e Done [] fresh p ear u
+done_as e fresh p ear u m = record { errand = m.errand; seen = m.seen; next = m.next }
+
+-- if no step is left, all is done
+pub all_done : (steps : List Step) (i : ℕ) (e : Errand) (fresh : Bool) (p : Progress) (ear : TalkState) (u : Turn) → length steps ≤ i → Matches e (drop i steps) fresh p ear u → Spoken e Done [] fresh p ear u
+all_done steps i e fresh p ear u le m = done_as e fresh p ear u (subst (λ (xs : List Step). Matches e xs fresh p ear u) (drop_all i steps le) m)

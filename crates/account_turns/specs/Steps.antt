@@ -1,5 +1,5 @@
 -- How a turn goes through the steps of a script.
-use Rattle.std.specs.Prelude.{◌≡◌, Bool, true, false, not, ◌||◌, List, [], ◌∷◌}
+use Rattle.std.specs.Prelude.{◌≡◌, Bool, true, false, not, ◌||◌, ◌&&◌, List, [], ◌∷◌}
 use Rattle.mail_talk.specs.States.{is_idle}
 use Rattle.mail_talk.specs.Units.{TalkState}
 use Rattle.account_script.specs.declared.steps.Progress.{Progress}
@@ -36,3 +36,9 @@ abbrev pub IsReadyAfter : Ending → Bool → Type 0
 IsReadyAfter Done unsteady = unsteady ≡ false
 IsReadyAfter (Stopped cause) unsteady = keeps_up cause ≡ true → unsteady ≡ false
 IsReadyAfter Failed unsteady = Unit {0}
+
+-- if the account is up after an ending, a command may be said
+abbrev pub IsUpAfter : Ending → Bool → Bool → Type 0
+IsUpAfter Done up unsteady = up ≡ true → unsteady ≡ false
+IsUpAfter (Stopped cause) up unsteady = (up && keeps_up cause) ≡ true → unsteady ≡ false
+IsUpAfter Failed up unsteady = Unit {0}

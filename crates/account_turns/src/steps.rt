@@ -2,7 +2,7 @@
 ghost use Rattle.std.specs.Prelude.{◌≡◌, ◌∷◌, [], List, true, false, IfOk};
 ghost use Rattle.account_script.specs.declared.steps.Step.{Step as StepValue};
 ghost use Rattle.account_turns.specs.Exchanges.{IsCausedBy, Spoken};
-ghost use Rattle.account_turns.specs.Steps.{IsFirst, IsReadyAfter, Matches, MayTake, is_unsteady};
+ghost use Rattle.account_turns.specs.Steps.{IsFirst, IsReadyAfter, IsUpAfter, Matches, MayTake, is_unsteady};
 ghost use Rattle.account_turns.specs.Turns.{Continues, Turn};
 
 use crate::endings::Ending;
@@ -32,10 +32,11 @@ pub fn follow<L: Link>(
     steps: &[Step],
 ) -> Result<Ending, Memory>
     requires first { IsFirst (is_unsteady fresh.old listener.old) steps.now }
+    requires up { progress.old.up ≡ true → is_unsteady fresh.old listener.old ≡ false }
     ensures turn { (t : Turn) → Matches (record { who = who.now; ask = ask.now }) steps.now fresh.old progress.old listener.old t →
         Continues (L.talk link.old) (L.talk link.new) t (λ u. IfOk result (λ ending. Spoken (record { who = who.now; ask = ask.now }) ending [] fresh.new progress.new listener.new u)) }
     ensures fault { IfOk result (λ ending. IsCausedBy ending (L.faults link.old) (L.faults link.new)) }
-    ensures steady { IfOk result (λ ending. IsReadyAfter ending (is_unsteady fresh.new listener.new)) }
+    ensures steady { IfOk result (λ ending. IsUpAfter ending progress.new.up (is_unsteady fresh.new listener.new)) }
 {
     for step in steps {
         match take(alloc, link, listener, fresh, progress, who, ask, *step)? {
