@@ -1,5 +1,5 @@
 -- Which folder and which message an ask is about, and the steps of its script.
-use Rattle.std.specs.Prelude.{ℕ, Bool, true, false, not, ◌&&◌, if◌then◌else◌, List, [], ◌∷◌, ◌++◌, Option, Some, None}
+use Rattle.std.specs.Prelude.{ℕ, Bool, true, false, if◌then◌else◌, List, [], ◌∷◌, ◌++◌, Option, Some, None}
 use Rattle.account_pictures.specs.declared.records.Address.{Address}
 use Rattle.site_asks.specs.declared.asks.Ask.{Ask}
 use Rattle.site_asks.specs.declared.asks.Ask.TheVariants as ask

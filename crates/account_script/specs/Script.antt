@@ -17,7 +17,6 @@ use Rattle.mailbox_view.specs.Selections.{box_named}
 use Rattle.mailbox_view.specs.View.{ViewState, selected_box}
 use Rattle.mail_talk.specs.declared.results.FetchedBody.{FetchedBody}
 use Rattle.mail_talk.specs.States.{ToldState}
-use Rattle.account_script.specs.declared.cause.Cause.{Cause}
 use Rattle.account_script.specs.declared.cause.Cause.TheVariants as cause
 use Rattle.account_script.specs.declared.steps.Act.{Act}
 use Rattle.account_script.specs.declared.steps.Act.TheVariants as act

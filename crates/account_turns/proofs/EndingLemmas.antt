@@ -1,5 +1,5 @@
 -- What holds after an ending.
-use Rattle.std.proofs.Common.{◌≡◌, Bool, true, false, cond, Option, Some, None, ◌∙◌, sym, ap, refl}
+use Rattle.std.proofs.Common.{◌≡◌, Option, Some, None, refl}
 use Rattle.mail_talk.specs.declared.phase.Phase.{Phase}
 use Rattle.mail_talk.specs.declared.phase.Phase.TheVariants as phase
 use Rattle.mail_talk.specs.Units.{TalkState}

@@ -1,14 +1,10 @@
 -- What each piece makes of a turn.
-use Rattle.std.proofs.Common.{◌≡◌, ℕ, ◌+◌, ◌<◌, ◌≤◌, List, [], ◌∷◌, ◌++◌, length, take, refl, sym, ap, ◌∙◌, subst, Option, Some, None, Bool, true, false, cond, inl, inr}
-use Rattle.std.specs.Prelude.{Result, Ok, Err, IfOk}
-use Rattle.std.proofs.lemmas.List.{take_all}
+use Rattle.std.proofs.Common.{◌≡◌, ℕ, ◌+◌, ◌≤◌, List, [], length, refl, sym, ap, ◌∙◌, subst, Option, Bool, true, false}
+use Rattle.std.specs.Prelude.{Result, IfOk}
 use Rattle.account_pictures.specs.declared.talk.Piece.{Piece}
-use Rattle.account_pictures.specs.declared.talk.Piece.TheVariants.{Dialled, Said, Heard}
-use Rattle.mail_io.specs.Talks.{AppendsPiece, KeepsTalk, SaysPrefix}
-use Rattle.mail_talk.specs.declared.phase.Phase.{Phase}
-use Rattle.mail_talk.specs.declared.phase.Phase.TheVariants as phase
+use Rattle.account_pictures.specs.declared.talk.Piece.TheVariants.{Dialled, Heard}
+use Rattle.mail_io.specs.Talks.{AppendsPiece}
 use Rattle.mail_talk.specs.Talks.{after_dialled}
-use Rattle.mail_talk.specs.Told.{after_piece}
 use Rattle.mail_talk.specs.Units.{TalkState, after_heard, heard_count, heard_limit}
 use Rattle.account_script.specs.declared.steps.Progress.{Progress}
 use Rattle.account_script.specs.declared.steps.Step.{Step}
@@ -18,8 +14,8 @@ use Rattle.account_turns.specs.declared.endings.Last.TheVariants as lasts
 use Rattle.account_turns.specs.Causes.{is_open}
 use Rattle.account_turns.specs.Exchanges.{Begun, Hearing, Seen, Spoken, IsDueAfter, ending_of}
 use Rattle.account_turns.specs.Turns.{Continues, Due, Errand, IsAllowed, IsDue, Turn, after, down, due, last_after, left_after, progress_after, steps_after}
-use Rattle.account_turns.specs.Turns.Due.{Dials, Says, Waits}
-use Rattle.account_turns.proofs.TurnLemmas.{and_then, weaker, stays, one_piece, due_open, due_closed}
+use Rattle.account_turns.specs.Turns.Due.{Dials}
+use Rattle.account_turns.proofs.TurnLemmas.{and_then, weaker, one_piece, due_open, due_closed}
 
 -- ---- bytes that are heard
 

@@ -1,10 +1,9 @@
 -- The pieces of a command, one after the other.
-use Rattle.std.proofs.Common.{◌≡◌, ℕ, ◌+◌, ◌<◌, ◌≤◌, ◌^◌, List, [], ◌∷◌, ◌++◌, length, take, drop, get_or, map, refl, sym, ap, ◌∙◌, subst, Option, Some, None, Bool, true, false, cond, inl, inr, zero, suc, arith, append_assoc, append-nil}
+use Rattle.std.proofs.Common.{◌≡◌, ℕ, ◌+◌, ◌<◌, ◌^◌, List, [], ◌∷◌, ◌++◌, length, take, drop, get_or, refl, sym, ap, ◌∙◌, subst, Option, Some, None, Bool, true, false, inl, inr, zero, suc, arith, append_assoc, append-nil}
 use Rattle.std.specs.Prelude.{nat_le, ◌==◌}
 use Rattle.std.specs.Global.{Vec}
 use Rattle.std.specs.List.{concat, AllByRecursion}
 use Rattle.std.proofs.lemmas.List.{drop_more, drop_all, take_more, take-append-drop}
-use Rattle.std.proofs.lemmas.Bool.{cases_Bool}
 use Rattle.std.proofs.lemmas.Bool.Decides.{leb_tells, nat_tests}
 use Rattle.account_pictures.specs.declared.talk.Piece.{Piece}
 use Rattle.account_pictures.specs.declared.talk.Piece.TheVariants.{Said}
@@ -16,13 +15,11 @@ use Rattle.imap_commands.specs.Written.{bytes_of_vecs}
 use Rattle.imap_commands.proofs.NonemptyLemmas.{command_pieces_nonempty}
 use Rattle.command_pieces.specs.ReadBack.{spoken_before}
 use Rattle.command_pieces.specs.Spoken.{spoken_with}
-use Rattle.command_pieces.specs.Verbs.{verb_of_command}
-use Rattle.mail_io.specs.Talks.{AppendsPiece, GrowsByPrefix, SaysPrefix}
+use Rattle.mail_io.specs.Talks.{AppendsPiece, SaysPrefix}
 use Rattle.mail_talk.specs.declared.phase.Phase.{Phase}
 use Rattle.mail_talk.specs.declared.phase.Phase.TheVariants as phase
 use Rattle.mail_talk.specs.Saying.{after_first_piece, after_later_piece}
 use Rattle.mail_talk.specs.States.{is_piece}
-use Rattle.mail_talk.specs.Talks.{after_said, after_began, after_went_on, after_completed}
 use Rattle.mail_talk.specs.Told.{Talk, said_before, after_piece}
 use Rattle.mail_talk.specs.Units.{TalkState}
 use Rattle.mail_talk.proofs.SayLemmas.{first_tells, later_tells, cut_tells, read_in}
@@ -33,7 +30,7 @@ use Rattle.account_turns.specs.Causes.{is_open, last_of}
 use Rattle.account_turns.specs.Exchanges.{Begun, Hearing, IsDueOn, Seen, Speaks, Spoken, ending_of, with_uttered}
 use Rattle.account_turns.specs.Turns.{Continues, Due, Errand, IsAllowed, Turn, due, is_partial, last_after, left_after, progress_after, steps_after}
 use Rattle.account_turns.specs.Turns.Due.{Says}
-use Rattle.account_turns.proofs.TurnLemmas.{and_then, weaker, stays, one_piece, due_closed, due_owing}
+use Rattle.account_turns.proofs.TurnLemmas.{stays, one_piece, due_closed, due_owing}
 use Rattle.account_turns.proofs.NumberLemmas.{first_as_idle, later_as_owing, first_number, later_number}
 
 -- what is awaited before the first piece of a command with a number, or a later one
@@ -106,7 +103,13 @@ said_one a b t first command number before piece left e more fresh p ear new s t
       hearing = record {
         errand = refl;
         state = uttered first t.talk ear command number before piece left s.state turn begins splits s.said ∙ sym is;
-        said = refl; steps = refl; progress = refl; fresh = refl; last = refl; left = refl; begun = refl;
+        said = refl;
+        steps = refl;
+        progress = refl;
+        fresh = refl;
+        last = refl;
+        left = refl;
+        begun = refl;
         cut = whole_piece t.talk ear command number before piece left s.state splits s.said;
       };
       last = ap (λ (x : Due). last_after x (Said piece) t.last) s.next;
@@ -133,11 +136,13 @@ said_lost a b t piece before left last e more fresh p ear s add = one_piece a b 
 part_by : (a b : Option (List Piece)) (t : Turn) (command : Command) (number : ℕ) (before : List (List ℕ)) (piece : List ℕ) (left : List (List ℕ)) (e : Errand) (more : List Step) (fresh : Bool) (p : Progress) (ear : TalkState) (count : ℕ) → Speaks e before (piece ∷ left) (last_of command) more fresh p ear t
     → Splits command number before (piece ∷ left) → count < length piece → AppendsPiece a b (Said (take count piece)) → Continues a b t (λ u. (u.errand ≡ e) × Seen fresh ear u)
 part_by a b t command number before piece left e more fresh p ear count s splits less add =
-    one_piece a b t (Said (take count piece)) (λ u. (u.errand ≡ e) × Seen fresh ear u) add (subst (λ (x : Due). IsAllowed x (Said (take count piece)) t) (sym s.next) (count, refl))
-    (s.errand, record {
-      state = λ _. cut_tells t.talk command before piece left number count splits.fits splits.small splits.written (ap (λ (x : TalkState). Front x t.talk.said) s.state ∙ s.said) less ∙ s.state;
-      same = s.same;
-    })
+    one_piece a b t (Said (take count piece)) (λ u. (u.errand ≡ e) × Seen fresh ear u) add (subst (λ (x : Due). IsAllowed x (Said (take count piece)) t) (sym s.next) (count, refl)) (
+      s.errand,
+      record {
+        state = λ _. cut_tells t.talk command before piece left number count splits.fits splits.small splits.written (ap (λ (x : TalkState). Front x t.talk.said) s.state ∙ s.said) less ∙ s.state;
+        same = s.same;
+      },
+    )
 
 pub said_part : (a b : Option (List Piece)) (t : Turn) (command : Command) (number : ℕ) (before : List (List ℕ)) (piece : List ℕ) (left : List (List ℕ)) (e : Errand) (more : List Step) (fresh : Bool) (p : Progress) (ear : TalkState) → Speaks e before (piece ∷ left) (last_of command) more fresh p ear t
     → Splits command number before (piece ∷ left) → 0 < length piece → SaysPrefix a b piece → Continues a b t (λ u. (u.errand ≡ e) × Seen fresh ear u)

@@ -1,6 +1,6 @@
 -- What a step makes due.
-use Rattle.std.proofs.Common.{◌≡◌, ℕ, List, [], ◌∷◌, ◌+◌, ◌<◌, ◌≤◌, length, drop, get_or, refl, sym, ap, ◌∙◌, subst, Bool, true, false, cond}
-use Rattle.std.specs.Prelude.{◌||◌, not, ◌&&◌, Result, Ok, Err, IfOk}
+use Rattle.std.proofs.Common.{◌≡◌, ℕ, List, [], ◌∷◌, ◌+◌, ◌<◌, ◌≤◌, length, drop, get_or, refl, ap, ◌∙◌, subst, Bool, true, false}
+use Rattle.std.specs.Prelude.{not, ◌&&◌}
 use Rattle.std.proofs.lemmas.List.{drop_more, drop_all}
 use Rattle.mail_talk.specs.declared.phase.Phase.{Phase}
 use Rattle.mail_talk.specs.declared.phase.Phase.TheVariants as phase
@@ -15,7 +15,7 @@ use Rattle.account_script.specs.declared.steps.Step.TheVariants as step
 use Rattle.account_script.specs.Script.{act_of, progress_of}
 use Rattle.account_turns.specs.declared.endings.Ending.{Ending}
 use Rattle.account_turns.specs.declared.endings.Ending.TheVariants.{Done, Stopped, Failed}
-use Rattle.account_turns.specs.Exchanges.{IsIdleAfter, Seen, Spoken}
+use Rattle.account_turns.specs.Exchanges.{IsIdleAfter, Spoken}
 use Rattle.account_turns.specs.Causes.{keeps_up}
 use Rattle.account_turns.specs.Steps.{IsFirst, IsReadyAfter, IsUpAfter, Matches, MayTake, is_unsteady}
 use Rattle.account_turns.specs.Turns.{Errand, Turn, due, due_by, ready}

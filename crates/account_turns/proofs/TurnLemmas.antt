@@ -1,6 +1,5 @@
 -- A turn goes on piece by piece.
-use Rattle.std.proofs.Common.{◌≡◌, ℕ, List, [], ◌∷◌, ◌++◌, refl, sym, ap, ◌∙◌, subst, Option, Some, None, Bool, true, false, cond}
-use Rattle.std.specs.Prelude.{◌&&◌}
+use Rattle.std.proofs.Common.{◌≡◌, ℕ, List, [], ◌∷◌, refl, ap, ◌∙◌, Option, Some, None, Bool, true, false, cond}
 use Rattle.account_pictures.specs.declared.talk.Piece.{Piece}
 use Rattle.mail_io.specs.Talks.{AppendsPiece, KeepsTalk}
 use Rattle.mail_talk.specs.States.{is_piece}
@@ -8,10 +7,10 @@ use Rattle.mail_talk.specs.Units.{TalkState}
 use Rattle.account_script.specs.declared.cause.Cause.{Cause}
 use Rattle.account_script.specs.declared.steps.Progress.{Progress}
 use Rattle.account_script.specs.declared.steps.Step.{Step}
-use Rattle.account_turns.specs.Causes.{is_open, cause_of, keeps_up}
+use Rattle.account_turns.specs.Causes.{is_open, cause_of}
 use Rattle.account_turns.specs.Exchanges.{Hearing, IsDueAfter, ending_by, ending_of}
-use Rattle.account_turns.specs.Turns.{Continues, Due, Errand, IsDue, Turn, after, due, due_after, due_owed, with_piece}
-use Rattle.account_turns.specs.Turns.Due.{Says, Stops, Waits}
+use Rattle.account_turns.specs.Turns.{Continues, Errand, IsDue, Turn, after, due, due_after, due_owed, with_piece}
+use Rattle.account_turns.specs.Turns.Due.{Says, Waits}
 use Rattle.turn_algebra.proofs.GoingLemmas.{then_on, rest_on, weaker_on}
 
 pub and_then : (a b c : Option (List Piece)) (t : Turn) (P Q : Turn → Type 0) → Continues a b t P → ((u : Turn) → P u → Continues b c u Q) → Continues a c t Q

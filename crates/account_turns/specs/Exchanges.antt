@@ -1,5 +1,5 @@
 -- What a part of a turn comes to: a dial with its greeting, a command with its answer.
-use Rattle.std.specs.Prelude.{◌≡◌, ℕ, ◌+◌, Bool, true, false, ◌&&◌, if◌then◌else◌, List, [], ◌∷◌, ◌++◌, Option, Some, None}
+use Rattle.std.specs.Prelude.{◌≡◌, ℕ, Bool, true, false, ◌&&◌, List, [], ◌∷◌, Option, Some, None}
 use Rattle.std.specs.List.{concat}
 use Rattle.account_turns.specs.declared.endings.Last.{Last}
 use Rattle.imap_commands.specs.declared.command.Command.{Command}

@@ -61,11 +61,7 @@ pub fn keeps_up(cause: &Cause) -> bool
 
 /// Returns how a command ended whose pieces were said as far as they were asked for, or a greeting.
 #[tactic(auto, unfolding(crate::specs::Causes::cause_of))]
-pub fn how_ended(
-    alloc: Global,
-    last: Last,
-    listener: &Listener,
-) -> Result<Ending, Memory>
+pub fn how_ended(alloc: Global, last: Last, listener: &Listener) -> Result<Ending, Memory>
     ensures { IfOk result (λ ending. ending ≡ ending_of last listener.now) }
 {
     if let Some(cause) = damage(listener) {

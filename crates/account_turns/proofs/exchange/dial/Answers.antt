@@ -1,4 +1,4 @@
-use Rattle.std.proofs.Common.{[], false, refl}
+use Rattle.std.proofs.Common.{false, refl}
 use Rattle.account_turns.specs.Turns.{down}
 use Rattle.account_turns.proofs.TurnLemmas.{stays}
 use Rattle.account_turns.proofs.PieceLemmas.{dialled_one, goes_through}

@@ -1,4 +1,4 @@
-use Rattle.std.proofs.Common.{◌≡◌, ◌+◌, ◌<◌, ℕ, List, [], length, sym, ap, ◌∙◌, subst, rules}
+use Rattle.std.proofs.Common.{◌≡◌, ◌+◌, ◌<◌, ℕ, List, length, sym, ap, ◌∙◌, subst, rules}
 use Rattle.imap_commands.specs.Commands.{command_pieces}
 use Rattle.imap_commands.specs.Written.{bytes_of_vecs}
 use Rattle.account_turns.specs.Causes.{last_of}

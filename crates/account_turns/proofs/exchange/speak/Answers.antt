@@ -1,4 +1,4 @@
-use Rattle.std.proofs.Common.{◌≡◌, ◌<◌, ◌^◌, ◌+◌, ◌≤◌, ℕ, List, [], ◌∷◌, sym, ◌∙◌, arith, rules, refl, ap, subst, length, take, drop, get_or}
+use Rattle.std.proofs.Common.{◌≡◌, ◌<◌, ◌^◌, ◌+◌, ◌≤◌, ℕ, List, [], sym, ◌∙◌, arith, rules, ap, subst, length, take, drop, get_or}
 use Rattle.std.specs.Prelude.{nat_le, ◌==◌}
 use Rattle.std.specs.List.{concat, AllByRecursion}
 use Rattle.std.proofs.lemmas.List.{drop_all}
@@ -75,7 +75,7 @@ returns-then-not-is_piece-clause-turn g c =
     λ t more p s. and_then _ _ _ t _ _ (c.loop-i.invariant.turn t more p s) (λ u h. and_then _ _ _ u _ _ (said_at _ _ u bs c.loop-i.i _ c.args.command.now c.args.number t.errand more t.fresh p c.loop-i.listener c.utter.new.listener lt c.requires.fits small c.requires.pieces c.loop-i.invariant.awaits same h c.in-Ok.ensures.says said)
     (λ v w. weaker _ _ v _ _ (c.in_ok-listen-in-Ok.ensures.turn v w.hearing) (λ x y. IfOk-weaker c.how_ended.result _ _
     (λ e is. subst (λ (z : Ending). Spoken t.errand z more t.fresh p c.listen.new.listener x) (sym (is ∙ ap (λ (l : Last). ending_of l c.listen.new.listener) c.last_of.ensures))
-        (speaks_end (drop (c.loop-i.i + 1) bs) (concat (take (c.loop-i.i + 1) bs)) (last_of c.args.command.now) t.errand more t.fresh p c.utter.new.listener c.listen.new.listener v x w y (c.in_ok-listen-in-Ok.ensures.closed (search rules)) (search rules))) c.how_ended.ensures)))
+    (speaks_end (drop (c.loop-i.i + 1) bs) (concat (take (c.loop-i.i + 1) bs)) (last_of c.args.command.now) t.errand more t.fresh p c.utter.new.listener c.listen.new.listener v x w y (c.in_ok-listen-in-Ok.ensures.closed (search rules)) (search rules))) c.how_ended.ensures)))
 
 pub returns-then-not-is_piece-clause-idle : goal.returns-then-not-is_piece-clause-idle
 returns-then-not-is_piece-clause-idle g c = IfOk-weaker c.how_ended.result _ _ (λ e is. subst (λ (y : Ending). IsIdleAfter y c.listen.new.listener) (sym is) (idle_end _ c.listen.new.listener)) c.how_ended.ensures
@@ -95,7 +95,7 @@ returns-clause-turn g c =
     let all : length bs ≤ c.loop-i.i = subst (λ (n : ℕ). n ≤ c.loop-i.i) (sym (same_length c.args.pieces.now)) (omega arith) in
     λ t more p s. weaker _ _ t _ _ (c.loop-i.invariant.turn t more p s) (λ u h. IfOk-weaker c.how_ended-2.result _ _
     (λ e is. subst (λ (z : Ending). Spoken t.errand z more t.fresh p c.loop-i.listener u) (sym (is ∙ ap (λ (l : Last). ending_of l c.loop-i.listener) c.last_of-2.ensures))
-        (speaks_done (take c.loop-i.i bs) (last_of c.args.command.now) t.errand more t.fresh p c.loop-i.listener u (subst (λ (l : List (List ℕ)). Speaks t.errand (take c.loop-i.i bs) l (last_of c.args.command.now) more t.fresh p c.loop-i.listener u) (drop_all c.loop-i.i bs all) h))) c.how_ended-2.ensures)
+    (speaks_done (take c.loop-i.i bs) (last_of c.args.command.now) t.errand more t.fresh p c.loop-i.listener u (subst (λ (l : List (List ℕ)). Speaks t.errand (take c.loop-i.i bs) l (last_of c.args.command.now) more t.fresh p c.loop-i.listener u) (drop_all c.loop-i.i bs all) h))) c.how_ended-2.ensures)
 
 pub returns-clause-idle : goal.returns-clause-idle
 returns-clause-idle g c = IfOk-weaker c.how_ended-2.result _ _ (λ e is. subst (λ (y : Ending). IsIdleAfter y c.loop-i.listener) (sym is) (idle_end _ c.loop-i.listener)) c.how_ended-2.ensures

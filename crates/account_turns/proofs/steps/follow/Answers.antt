@@ -2,10 +2,10 @@ use Rattle.std.proofs.Common.{◌<◌, ◌+◌, ◌∙◌, length, drop, arith, 
 use Rattle.std.proofs.lemmas.Result.{err_from_is_err_and}
 use Rattle.account_turns.specs.declared.endings.Ending.{Ending}
 use Rattle.account_turns.specs.Exchanges.{IsCausedBy}
-use Rattle.account_turns.specs.Steps.{IsReadyAfter, IsUpAfter, is_unsteady}
+use Rattle.account_turns.specs.Steps.{IsReadyAfter, is_unsteady}
 use Rattle.account_turns.specs.Turns.{Errand}
 use Rattle.account_turns.proofs.TurnLemmas.{and_then, weaker}
-use Rattle.account_turns.proofs.StepLemmas.{all_done, at_step, fails_on, first_at, first_steady, goes_on, stops_on, up_by}
+use Rattle.account_turns.proofs.StepLemmas.{at_step, fails_on, first_steady, goes_on, stops_on}
 use Rattle.account_turns.proofs.steps.follow.Goals as goal
 
 pub loop-step-preserved : goal.loop-step-preserved

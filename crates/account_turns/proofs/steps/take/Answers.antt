@@ -1,4 +1,4 @@
-use Rattle.std.proofs.Common.{◌≡◌, ◌+◌, refl, sym, ap, ◌∙◌}
+use Rattle.std.proofs.Common.{◌+◌, refl, sym, ap, ◌∙◌}
 use Rattle.std.proofs.lemmas.Result.{IfOk-weaker}
 use Rattle.imap_commands.specs.Commands.{command_pieces}
 use Rattle.account_script.specs.declared.steps.Progress.{Progress}
@@ -32,7 +32,7 @@ returns-in-Say-clause-turn g c =
     let later = c.progress_at.ensures ∙ ap (λ (t : ToldState). progress_of c.args.step e.ask t c.args.progress.now) c.told-2.ensures in
     let both = steady_parts c.args.fresh.now c.args.listener.now (steady _ c.args.step e c.args.listener.now.told c.args.progress.now _ c.requires.may act refl) in
     λ t more m. weaker _ _ t _ _ (c.exchange.ensures.turn t more c.progress_at.result (m.seen.state both.0)
-        (step_due c.args.step more e c.args.fresh.now c.args.progress.now c.args.listener.now t _ m act ∙ ap (λ (p : Progress). Says (last_of c.in-Say.command) (command_pieces (c.args.listener.now.told.view.number + 1) c.in-Say.command) more p) (sym later)))
+    (step_due c.args.step more e c.args.fresh.now c.args.progress.now c.args.listener.now t _ m act ∙ ap (λ (p : Progress). Says (last_of c.in-Say.command) (command_pieces (c.args.listener.now.told.view.number + 1) c.in-Say.command) more p) (sym later)))
     (λ u h. spoken_same _ t.errand e more more t.fresh c.args.fresh.now _ _ _ u m.errand refl m.seen.same refl h)
 
 pub returns-in-Say-clause-steady : goal.returns-in-Say-clause-steady
