@@ -1,5 +1,5 @@
 -- What a server says leaves the number of the last command.
-use Rattle.std.proofs.Common.{◌≡◌, ℕ, Bool, true, false, cond, Option, Some, None, List, [], ◌∷◌, ◌++◌, length, refl, sym, ap, ◌∙◌, subst}
+use Rattle.std.proofs.Common.{◌≡◌, ℕ, Bool, true, false, cond, Option, Some, None, List, [], ◌∷◌, ◌++◌, length, refl, ap, ◌∙◌}
 use Rattle.imap_framing.specs.Units.{FrameState, step}
 use Rattle.imap_framing.specs.Units.FrameState.{Line, Octets, Whole, TooLong, Past}
 use Rattle.imap_grammar.specs.declared.response.Word.{Word}
@@ -17,7 +17,7 @@ use Rattle.mailbox_view.specs.View.{ViewState, after_plus, after_closed, after_c
 use Rattle.mail_talk.specs.declared.phase.Phase.{Phase}
 use Rattle.mail_talk.specs.declared.phase.Phase.TheVariants as phase
 use Rattle.mail_talk.specs.States.{ToldState, after_greeting, after_request, after_answer as answer_in, heard_in, is_listening, is_silent}
-use Rattle.mail_talk.specs.Units.{TalkState, with_rest, damaged, after_unit_read, take_units, drained, after_heard}
+use Rattle.mail_talk.specs.Units.{TalkState, with_rest, after_unit_read, take_units, drained, after_heard}
 use Rattle.mail_talk.proofs.UnitLemmas.{take_byte, take_one, take_none, drained_open, drained_closed}
 
 -- ---- a view

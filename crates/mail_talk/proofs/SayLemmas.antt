@@ -61,7 +61,7 @@ read_at : (front : List ℕ) (before : List (List ℕ)) (piece : List ℕ) (piec
 read_at front [] piece pieces tag one reads = rw append-nil (reads.0, reads.1)
 read_at front (first ∷ before) piece pieces tag one reads = rw (sym (append_assoc front first (concat before))) (read_at (front ++ first) before piece pieces tag one reads.2)
 
-read_in : (tag : ℕ) (one : Command) (before : List (List ℕ)) (piece : List ℕ) (pieces : List (List ℕ)) → tag < 2 ^ 32 → FitsFieldTypes one → command_pieces tag one ≡ before ++ piece ∷ pieces
+pub read_in : (tag : ℕ) (one : Command) (before : List (List ℕ)) (piece : List ℕ) (pieces : List (List ℕ)) → tag < 2 ^ 32 → FitsFieldTypes one → command_pieces tag one ≡ before ++ piece ∷ pieces
     → IsPartialWithin (concat before) piece × (spoken_with (concat before) piece ≡ spoken_before pieces tag (written_form one))
 read_in tag one before piece pieces tag_fits fits written =
     read_at [] before piece pieces tag (written_form one) (subst (λ (all : List (List ℕ)). ReadAs [] all tag (written_form one)) written (commands_read tag one tag_fits fits))

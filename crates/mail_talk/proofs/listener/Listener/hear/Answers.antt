@@ -1,6 +1,6 @@
-use Rattle.std.proofs.Common.{◌≡◌, ◌≤◌, ◌++◌, sym, ap, ◌∙◌, subst}
+use Rattle.std.proofs.Common.{◌≤◌, ap, ◌∙◌, subst}
 use Rattle.std.proofs.lemmas.Result.{on_ok_weaker}
-use Rattle.mail_talk.specs.Units.{TalkState, drained, with_rest}
+use Rattle.mail_talk.specs.Units.{TalkState, drained}
 use Rattle.mail_talk.proofs.CountLemmas.{heard_counts}
 use Rattle.mail_talk.proofs.listener.Listener.hear.Goals as goal
 

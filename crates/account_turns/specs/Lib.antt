@@ -1,0 +1,4 @@
+pub mod Causes
+pub mod Turns
+pub mod Exchanges
+pub mod Steps
