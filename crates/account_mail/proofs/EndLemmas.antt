@@ -1,15 +1,12 @@
 -- What a script's end makes of a turn.
-use Rattle.std.proofs.Common.{◌≡◌, Bool, true, false, [], refl, sym, ap, ◌∙◌}
-use Rattle.std.specs.Prelude.{◌&&◌}
+use Rattle.std.proofs.Common.{◌≡◌, Bool, true, false, [], refl, ◌∙◌}
 use Rattle.mail_talk.specs.Units.{TalkState}
-use Rattle.account_script.specs.declared.cause.Cause.{Cause}
 use Rattle.account_script.specs.declared.steps.Progress.{Progress}
 use Rattle.account_turns.specs.declared.endings.Ending.{Ending}
 use Rattle.account_turns.specs.declared.endings.Ending.TheVariants.{Done, Stopped, Failed}
-use Rattle.account_turns.specs.Causes.{keeps_up}
 use Rattle.account_turns.specs.Exchanges.{Spoken}
 use Rattle.account_turns.specs.Steps.{IsUpAfter}
-use Rattle.account_turns.specs.Turns.{Errand, Turn, due, ready}
+use Rattle.account_turns.specs.Turns.{Errand, Turn, ready}
 use Rattle.account_turns.specs.Turns.Due.{Ends}
 use Rattle.account_mail.specs.Turned.{Ended, EndsAs}
 use Rattle.account_mail.specs.Ups.{up_after}

@@ -1,20 +1,19 @@
 -- How a turn begins after a talk, and what the talk is after it.
-use Rattle.std.proofs.Common.{◌≡◌, ℕ, List, [], ◌∷◌, ◌++◌, Bool, true, false, refl, sym, ap, ◌∙◌, subst, Option, Some, None, append_assoc, append-nil}
-use Rattle.std.specs.Prelude.{Result, Ok, Err, IfOk, IfSome, ◌||◌, not}
+use Rattle.std.proofs.Common.{◌≡◌, List, [], ◌∷◌, ◌++◌, Bool, true, false, refl, sym, ap, ◌∙◌, subst, Option, Some, None, append_assoc, append-nil}
+use Rattle.std.specs.Prelude.{Result, IfSome}
 use Rattle.std.specs.List.{fold}
 use Rattle.account_pictures.specs.declared.talk.Piece.{Piece}
 use Rattle.site_asks.specs.declared.asks.Ask.{Ask}
 use Rattle.mail_talk.specs.Told.{Talk, no_talk, after_piece, told_of}
 use Rattle.mail_talk.specs.Units.{TalkState}
 use Rattle.account_script.specs.declared.steps.Credentials.{Credentials}
-use Rattle.account_script.specs.declared.steps.Progress.{Progress}
 use Rattle.account_script.specs.declared.steps.Step.{Step}
 use Rattle.account_script.specs.Asks.{ask_steps, script_of}
 use Rattle.account_turns.specs.declared.endings.Ending.{Ending}
-use Rattle.account_turns.specs.Steps.{IsFirst, Matches, is_unsteady}
-use Rattle.account_turns.specs.Turns.{Continues, Errand, IsDue, Turn, after, due, ready, with_piece}
-use Rattle.account_mail.specs.Sides.{IsKept, IsSteady, IsTalk, KeepsTalk, SideState}
-use Rattle.account_mail.specs.Turned.{Ended, Turned, opening, talk_of}
+use Rattle.account_turns.specs.Steps.{IsFirst, Matches}
+use Rattle.account_turns.specs.Turns.{Continues, Errand, Turn, after, due, ready, with_piece}
+use Rattle.account_mail.specs.Sides.{IsKept, IsSteady, IsTalk, SideState}
+use Rattle.account_mail.specs.Turned.{Turned, opening, talk_of}
 use Rattle.turn_algebra.specs.Going.{GrowsBy}
 use Rattle.turn_algebra.proofs.GoingLemmas.{folded_append}
 
@@ -63,7 +62,7 @@ before talk fresh ear kept = before_by talk fresh fresh ear refl kept
 
 -- ---- the talk after a turn
 
-after_talk : (t : Turn) (parts : List Piece) → (fold after t parts).talk ≡ fold after_piece t.talk parts
+pub after_talk : (t : Turn) (parts : List Piece) → (fold after t parts).talk ≡ fold after_piece t.talk parts
 after_talk t [] = refl
 after_talk t (p ∷ ps) = after_talk (after t p) ps
 
@@ -71,7 +70,7 @@ grown_talk : (talk parts : List Piece) → fold with_piece talk parts ≡ talk +
 grown_talk talk [] = sym (append-nil talk)
 grown_talk talk (p ∷ ps) = grown_talk (talk ++ p ∷ []) ps ∙ append_assoc talk (p ∷ []) ps
 
-is_talk_after : (a b : Option (List Piece)) (pieces parts : List Piece) → IsTalk a pieces → GrowsBy with_piece a b parts → IsTalk b (pieces ++ parts)
+pub is_talk_after : (a b : Option (List Piece)) (pieces parts : List Piece) → IsTalk a pieces → GrowsBy with_piece a b parts → IsTalk b (pieces ++ parts)
 is_talk_after None None pieces parts is g = tt
 is_talk_after None (Some y) pieces parts is g = absurd g
 is_talk_after (Some x) None pieces parts is g = absurd g

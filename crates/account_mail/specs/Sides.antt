@@ -1,8 +1,7 @@
 -- What contracts see of an account's side of its mail server.
 use Rattle.std.specs.Prelude.{◌≡◌, ℕ, Bool, true, false, List, Option, Some, None}
-use Rattle.std.specs.List.{fold}
 use Rattle.account_pictures.specs.declared.talk.Piece.{Piece}
-use Rattle.mail_talk.specs.Told.{Talk, no_talk, after_piece, told_of}
+use Rattle.mail_talk.specs.Told.{told_of}
 use Rattle.mail_talk.specs.Units.{TalkState}
 use Rattle.account_script.specs.declared.steps.Credentials.{Credentials}
 use Rattle.account_turns.specs.Steps.{is_unsteady}

@@ -1,11 +1,10 @@
 //! An account's side of its mail server.
 ghost use Rattle.std.specs.Prelude.{◌≡◌, [], true, false, Some, None, IsSome, IfOk, OnErr, IfSome, IfNone};
-ghost use Rattle.site_asks.specs.declared.asks.Ask.TheVariants as asks;
 ghost use Rattle.mail_talk.specs.States.{nothing_told};
 ghost use Rattle.account_turns.specs.Exchanges.{IsCausedBy};
-ghost use Rattle.account_mail.specs.Turned.{Turned, is_done, is_user, login_fresh, who_after};
+ghost use Rattle.account_mail.specs.Turned.{LoggedIn, Turned, login_errand};
 
-use crate::turns::follow_ask;
+use crate::turns::{follow_ask, log_in};
 use account_turns::{Credentials, Ending};
 use mail_io::Link;
 use mail_talk::{Listener, Told};
@@ -83,6 +82,34 @@ impl<L: Link> MailSide<L> {
             &mut self.up,
             who,
             ask,
+        ) {
+            Ok(ending) => Ok(ending),
+            Err(error) => {
+                self.up = false;
+                self.fresh = true;
+                Err(error)
+            }
+        }
+    }
+
+    /// Logs a user in, by a new connection: also if the account is logged in. A connection for another user than the one that is kept
+    /// forgets what was told, and so does the first after want of memory. Out of memory, the account is down, and the next dial forgets
+    /// what was told.
+    pub fn login(&mut self, alloc: Global, user: &Text, password: &Text) -> Result<Ending, Memory>
+        ensures logged_in { LoggedIn (login_errand user.now password.now) self.old self.new result }
+        ensures fault { IfOk result (λ ending. IsCausedBy ending self.old.faults self.new.faults) }
+        ensures memory { OnErr result ((self.new.up ≡ false) × (self.new.fresh ≡ true)) }
+        ensures same_user_on_err { OnErr result (self.new.who ≡ self.old.who) }
+    {
+        match log_in(
+            alloc,
+            &mut self.link,
+            &mut self.listener,
+            &mut self.who,
+            &mut self.fresh,
+            &mut self.up,
+            user,
+            password,
         ) {
             Ok(ending) => Ok(ending),
             Err(error) => {

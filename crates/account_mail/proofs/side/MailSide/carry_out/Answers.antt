@@ -7,10 +7,11 @@ use Rattle.account_mail.proofs.side.MailSide.carry_out.Goals as goal
 pub invariant_of-self : goal.invariant_of-self
 invariant_of-self g c =
     let e : Errand = record { who = c.in-Some.who; ask = c.args.ask.now } in
-    let b = before (g.L.Link.talk c.self.inside.link) c.self.inside.fresh c.self.inside.listener c.self.invariant.1 in
-    (c.in-Ok.ensures.steady,
+    let b = before (g.L.Link.talk c.self.inside.link) c.self.inside.fresh c.self.inside.listener c.self.invariant.1 in (
+      c.in-Ok.ensures.steady,
       kept_after e c.self.inside.up c.self.inside.fresh _ _ b.pieces _ _ b.same
-      (weaker _ _ _ _ _ (c.in-Ok.ensures.turn (opening e c.self.inside.up c.self.inside.fresh b.pieces) (matches_opening e c.self.inside.up c.self.inside.fresh c.self.inside.listener b.pieces c.self.invariant.0 b.told)) (λ u h. h.told)))
+          (weaker _ _ _ _ _ (c.in-Ok.ensures.turn (opening e c.self.inside.up c.self.inside.fresh b.pieces) (matches_opening e c.self.inside.up c.self.inside.fresh c.self.inside.listener b.pieces c.self.invariant.0 b.told)) (λ u h. h.told)),
+    )
 
 pub returns-in-Ok-clause-turned : goal.returns-in-Ok-clause-turned
 returns-in-Ok-clause-turned g c =
