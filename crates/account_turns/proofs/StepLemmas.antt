@@ -15,7 +15,7 @@ use Rattle.account_script.specs.declared.steps.Step.TheVariants as step
 use Rattle.account_script.specs.Script.{act_of, progress_of}
 use Rattle.account_turns.specs.declared.endings.Ending.{Ending}
 use Rattle.account_turns.specs.declared.endings.Ending.TheVariants.{Done, Stopped, Failed}
-use Rattle.account_turns.specs.Exchanges.{IsIdleAfter, Spoken}
+use Rattle.account_turns.specs.Exchanges.{IsIdleAfter, IsUnheard, Spoken}
 use Rattle.account_turns.specs.Causes.{keeps_up}
 use Rattle.account_turns.specs.Steps.{IsFirst, IsReadyAfter, IsUpAfter, Matches, MayTake, is_unsteady}
 use Rattle.account_turns.specs.Turns.{Errand, Turn, due, due_by, ready}
@@ -129,3 +129,11 @@ done_as e fresh p ear u m = record { errand = m.errand; seen = m.seen; next = m.
 -- if no step is left, all is done
 pub all_done : (steps : List Step) (i : ℕ) (e : Errand) (fresh : Bool) (p : Progress) (ear : TalkState) (u : Turn) → length steps ≤ i → Matches e (drop i steps) fresh p ear u → Spoken e Done [] fresh p ear u
 all_done steps i e fresh p ear u le m = done_as e fresh p ear u (subst (λ (xs : List Step). Matches e xs fresh p ear u) (drop_all i steps le) m)
+
+-- when a command may be said, the next dial isn't fresh
+pub still_fresh : (fresh : Bool) (ear : TalkState) → is_unsteady fresh ear ≡ false → fresh ≡ true → ⊥
+still_fresh true ear w f = cc
+still_fresh false ear w f = cc
+
+pub unheard_on : (first fresh : Bool) (before ear now : TalkState) → (fresh ≡ true → IsUnheard first before ear) → IsUnheard fresh ear now → IsUnheard first before now
+unheard_on first fresh before ear now earlier (f, is) = ((earlier f).0, is ∙ (earlier f).1)

@@ -108,3 +108,7 @@ HasStayed false before now = Rose before now
 abbrev pub IsCausedBy : Ending → ℕ → ℕ → Type 0
 IsCausedBy Failed before now = Rose before now
 IsCausedBy other before now = now ≡ before
+
+-- as long as the next dial is to be fresh, nothing is heard
+abbrev pub IsUnheard : Bool → TalkState → TalkState → Type 0
+IsUnheard fresh before now = (fresh ≡ true) × (now ≡ before)

@@ -7,7 +7,7 @@ ghost use Rattle.mail_talk.specs.declared.phase.Phase.TheVariants as phases;
 ghost use Rattle.account_script.specs.declared.steps.Progress.{Progress as ProgressValue};
 ghost use Rattle.account_script.specs.declared.steps.Step.{Step as StepValue};
 ghost use Rattle.account_turns.specs.Causes.{last_of};
-ghost use Rattle.account_turns.specs.Exchanges.{IsCausedBy, IsIdleAfter, Seen, Speaks, Spoken, Hearing, with_uttered};
+ghost use Rattle.account_turns.specs.Exchanges.{IsCausedBy, IsIdleAfter, IsUnheard, Seen, Speaks, Spoken, Hearing, with_uttered};
 ghost use Rattle.account_turns.specs.Turns.{Continues, Turn, due, down};
 ghost use Rattle.account_turns.specs.Turns.Due.{Dials, Says};
 
@@ -115,6 +115,7 @@ pub fn dial<L: Link>(
     ensures turn { (t : Turn) (more : List StepValue) → Seen fresh.old listener.old t → due t ≡ Dials fresh.old more →
         Continues (L.talk link.old) (L.talk link.new) t (λ u. IfOk result (λ ending. Spoken t.errand ending more fresh.new down listener.new u)) }
     ensures fresh { IfOk result (λ ending. fresh.new ≡ true → ending ≡ Ending.Failed) }
+    ensures unheard { IfOk result (λ ending. fresh.new ≡ true → IsUnheard fresh.old listener.old listener.new) }
     ensures fault { IfOk result (λ ending. IsCausedBy ending (L.faults link.old) (L.faults link.new)) }
     ensures idle { IfOk result (λ ending. IsIdleAfter ending listener.new) }
 {

@@ -1,7 +1,7 @@
 //! Goes through the steps of a script.
 ghost use Rattle.std.specs.Prelude.{◌≡◌, ◌∷◌, [], List, true, false, IfOk};
 ghost use Rattle.account_script.specs.declared.steps.Step.{Step as StepValue};
-ghost use Rattle.account_turns.specs.Exchanges.{IsCausedBy, Spoken};
+ghost use Rattle.account_turns.specs.Exchanges.{IsCausedBy, IsUnheard, Spoken};
 ghost use Rattle.account_turns.specs.Steps.{IsFirst, IsReadyAfter, IsUpAfter, Matches, MayTake, is_unsteady};
 ghost use Rattle.account_turns.specs.Turns.{Continues, Turn};
 
@@ -36,6 +36,7 @@ pub fn follow<L: Link>(
     ensures turn { (t : Turn) → Matches (record { who = who.now; ask = ask.now }) steps.now fresh.old progress.old listener.old t →
         Continues (L.talk link.old) (L.talk link.new) t (λ u. IfOk result (λ ending. Spoken (record { who = who.now; ask = ask.now }) ending [] fresh.new progress.new listener.new u)) }
     ensures fault { IfOk result (λ ending. IsCausedBy ending (L.faults link.old) (L.faults link.new)) }
+    ensures unheard { IfOk result (λ ending. fresh.new ≡ true → IsUnheard fresh.old listener.old listener.new) }
     ensures steady { IfOk result (λ ending. IsUpAfter ending progress.new.up (is_unsteady fresh.new listener.new)) }
 {
     for step in steps {
@@ -63,6 +64,7 @@ fn take<L: Link>(
     ensures turn { (t : Turn) (more : List StepValue) → Matches (record { who = who.now; ask = ask.now }) (step ∷ more) fresh.old progress.old listener.old t →
         Continues (L.talk link.old) (L.talk link.new) t (λ u. IfOk result (λ ending. Spoken (record { who = who.now; ask = ask.now }) ending more fresh.new progress.new listener.new u)) }
     ensures fault { IfOk result (λ ending. IsCausedBy ending (L.faults link.old) (L.faults link.new)) }
+    ensures unheard { IfOk result (λ ending. fresh.new ≡ true → IsUnheard fresh.old listener.old listener.new) }
     ensures steady { IfOk result (λ ending. IsReadyAfter ending (is_unsteady fresh.new listener.new)) }
 {
     let act = act_at(alloc, step, who, ask, listener.told(), *progress)?;

@@ -5,7 +5,7 @@ use Rattle.account_turns.specs.Exchanges.{IsCausedBy}
 use Rattle.account_turns.specs.Steps.{IsReadyAfter, is_unsteady}
 use Rattle.account_turns.specs.Turns.{Errand}
 use Rattle.account_turns.proofs.TurnLemmas.{and_then, weaker}
-use Rattle.account_turns.proofs.StepLemmas.{at_step, fails_on, first_steady, goes_on, stops_on}
+use Rattle.account_turns.proofs.StepLemmas.{at_step, fails_on, first_steady, goes_on, still_fresh, stops_on, unheard_on}
 use Rattle.account_turns.proofs.steps.follow.Goals as goal
 
 pub loop-step-preserved : goal.loop-step-preserved
@@ -18,6 +18,7 @@ loop-step-preserved g c =
           (λ w h. goes_on c.in_ok-take.field-0 _ e _ _ _ w c.in-Done.is h));
       first = first_steady _ (drop (c.loop-step.step-index + 1) c.args.steps.now) ready;
       up = λ _. ready;
+      unheard = λ f. absurd (still_fresh c.take.new.fresh c.take.new.listener ready f);
       kept = subst (λ (x : Ending). IsCausedBy x (g.L.Link.faults c.loop-step.link) (g.L.Link.faults c.take.new.link)) c.in-Done.is c.in_ok-take.ensures.fault ∙ c.loop-step.invariant.kept;
     }
 
@@ -41,3 +42,9 @@ returns-in-Failed-clause-turn g c =
     let lt : c.loop-step.step-index < length c.args.steps.now = omega arith in
     λ t m. and_then _ _ _ t _ _ (c.loop-step.invariant.turn t m) (λ u n. weaker _ _ u _ _ (c.in_ok-take.ensures.turn u (drop (c.loop-step.step-index + 1) c.args.steps.now) (at_step c.args.steps.now c.loop-step.step-index _ e _ _ _ u lt n))
     (λ w h. fails_on c.in_ok-take.field-0 _ e _ _ _ w h))
+
+pub returns-in-Stopped-clause-unheard : goal.returns-in-Stopped-clause-unheard
+returns-in-Stopped-clause-unheard g c = λ f. unheard_on _ _ _ _ _ c.loop-step.invariant.unheard (c.in_ok-take.ensures.unheard f)
+
+pub returns-in-Failed-clause-unheard : goal.returns-in-Failed-clause-unheard
+returns-in-Failed-clause-unheard g c = λ f. unheard_on _ _ _ _ _ c.loop-step.invariant.unheard (c.in_ok-take.ensures.unheard f)

@@ -9,7 +9,7 @@ use Rattle.account_turns.specs.Turns.{Errand, down}
 use Rattle.account_turns.specs.Turns.Due.{Says}
 use Rattle.account_turns.proofs.TurnLemmas.{rests, weaker}
 use Rattle.account_turns.proofs.PieceLemmas.{spoken_same}
-use Rattle.account_turns.proofs.StepLemmas.{ready_by, skipped, steady, steady_parts, step_due, stopped}
+use Rattle.account_turns.proofs.StepLemmas.{ready_by, skipped, steady, steady_parts, step_due, still_fresh, stopped}
 use Rattle.account_turns.proofs.steps.take.Goals as goal
 
 pub returns-in-Skip-clause-turn : goal.returns-in-Skip-clause-turn
@@ -48,3 +48,9 @@ returns-in-Stop-clause-turn g c =
     let act = ap (λ (t : ToldState). act_of c.args.step e.who e.ask t c.args.progress.now) (sym c.told.ensures) ∙ sym c.in_ok-act.ensures.equals ∙ c.in-Stop.is in
     let later = c.progress_at.ensures ∙ ap (λ (t : ToldState). progress_of c.args.step e.ask t c.args.progress.now) c.told-2.ensures in
     λ t more m. rests _ t _ (stopped c.args.step more e c.args.fresh.now c.args.progress.now c.progress_at.result c.args.listener.now t c.in-Stop.cause m act later)
+
+pub returns-in-Say-clause-unheard : goal.returns-in-Say-clause-unheard
+returns-in-Say-clause-unheard g c =
+    let e : Errand = record { who = c.args.who.now; ask = c.args.ask.now } in
+    let act = ap (λ (t : ToldState). act_of c.args.step e.who e.ask t c.args.progress.now) (sym c.told.ensures) ∙ sym c.in_ok-act.ensures.equals ∙ c.in-Say.is in
+    IfOk-weaker c.exchange.result _ _ (λ ending idle f. absurd (still_fresh c.args.fresh.now c.args.listener.now (steady _ c.args.step e c.args.listener.now.told c.args.progress.now _ c.requires.may act refl) f)) c.exchange.ensures.idle
