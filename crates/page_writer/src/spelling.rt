@@ -61,6 +61,8 @@ pub fn push_each(out: &mut Vec<u8>, bytes: &[u8]) -> Result<(), Memory>
 
 /// Whether each of the bytes is spelled as itself. It reads all of them: without an end in its midst, the loop is done on many bytes at
 /// once.
+// Inlined into a caller, the loop took ten times as long.
+#[inline(never)]
 pub fn is_plain(bytes: &[u8]) -> bool
     ensures { IsTrue result → spell_bytes bytes.now ≡ bytes.now }
 {
