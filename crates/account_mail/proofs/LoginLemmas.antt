@@ -1,5 +1,5 @@
 -- How a login begins and ends.
-use Rattle.std.proofs.Common.{◌≡◌, ℕ, List, [], ◌∷◌, ◌++◌, Bool, true, false, refl, sym, ap, ◌∙◌, subst, Option, append-nil, inl, inr}
+use Rattle.std.proofs.Common.{◌≡◌, ℕ, List, [], ◌∷◌, ◌++◌, Bool, true, false, refl, sym, ap, ◌∙◌, subst, Option, Some, append-nil, inl, inr}
 use Rattle.std.specs.Prelude.{Result, ◌&&◌, ◌||◌, not}
 use Rattle.std.specs.List.{fold}
 use Rattle.std.proofs.lemmas.Bool.{cases_Bool}
@@ -10,13 +10,14 @@ use Rattle.mail_talk.specs.Units.{TalkState}
 use Rattle.account_script.specs.declared.steps.Credentials.{Credentials}
 use Rattle.account_script.specs.declared.steps.Step.{Step}
 use Rattle.account_turns.specs.declared.endings.Ending.{Ending}
+use Rattle.account_turns.specs.declared.endings.Ending.TheVariants.{Done, Stopped, Failed}
 use Rattle.account_script.specs.Asks.{login_steps}
 use Rattle.account_turns.specs.Exchanges.{IsUnheard}
 use Rattle.account_turns.specs.Steps.{Matches}
 use Rattle.account_turns.specs.Turns.{Continues, Due, Errand, IsAllowed, IsDue, Turn, after, due, ready}
 use Rattle.account_turns.specs.Turns.Due.{Dials}
 use Rattle.account_mail.specs.Sides.{IsKept, IsTalk, SideState}
-use Rattle.account_mail.specs.Turned.{Ended, LoggedIn, LoginEnded, is_user, login_errand, login_fresh, opening, who_after}
+use Rattle.account_mail.specs.Turned.{Ended, IsKeptUser, LoggedIn, LoginEnded, is_user, login_errand, login_fresh, opening, who_after}
 use Rattle.account_mail.proofs.OpenLemmas.{after_talk, is_talk_after, matches_opening}
 use Rattle.turn_algebra.specs.Going.{AreDue}
 use Rattle.turn_algebra.proofs.GoingLemmas.{folded_append}
@@ -87,3 +88,9 @@ matches_login user password kept fresh ear pieces told =
 -- a login, by the fields of the side
 pub logged_as : {E : Type 0} (s view new : SideState) (result : Result Ending E) (e : Errand) → view ≡ s → LoggedIn e view new result → LoggedIn e s new result
 logged_as s view new result e is logged = subst (λ (x : SideState). LoggedIn e x new result) is logged
+
+-- who is kept after a login, by how it ended
+pub kept_user : (ending : Ending) (now kept : Option Credentials) (who : Credentials) (user password : List ℕ) (forgets still : Bool) → who ≡ record { user = user; password = password } → now ≡ who_after ending who forgets still kept → IsKeptUser ending user password now
+kept_user Done now kept who user password forgets still is w = w ∙ ap Some is
+kept_user (Stopped cause) now kept who user password forgets still is w = tt
+kept_user Failed now kept who user password forgets still is w = tt

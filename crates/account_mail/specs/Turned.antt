@@ -1,5 +1,5 @@
 -- What a turn does to an account's side of its mail server.
-use Rattle.std.specs.Prelude.{◌≡◌, ℕ, Bool, true, false, not, ◌&&◌, ◌||◌, List, [], Option, Some, None, Result, IfOk}
+use Rattle.std.specs.Prelude.{◌≡◌, ℕ, Bool, true, false, not, ◌&&◌, ◌||◌, if◌then◌else◌, List, [], Option, Some, None, Result, IfOk}
 use Rattle.std.specs.List.{fold}
 use Rattle.std.specs.Str.{bytes_eq}
 use Rattle.account_pictures.specs.declared.talk.Piece.{Piece}
@@ -72,6 +72,15 @@ abbrev pub who_after : Ending → Credentials → Bool → Bool → Option Crede
 who_after Done who fresh still kept = Some who
 who_after _ who true false kept = None
 who_after _ who _ still kept = kept
+
+-- who logged in is kept, if all was answered
+abbrev pub IsKeptUser : Ending → List ℕ → List ℕ → Option Credentials → Type 0
+IsKeptUser Done user password who = who ≡ Some (record { user = user; password = password })
+IsKeptUser _ user password who = Unit {0}
+
+-- who is kept if a login of a user was answered, and is taken back
+abbrev pub who_without_login : List ℕ → Option Credentials → Bool → Option Credentials
+who_without_login user who fresh = if login_fresh user who fresh then None else who
 
 -- A login has ended: the next dial is fresh if it was before and no dial succeeded, and what was told is kept of one that succeeded.
 pub record LoginEnded (ending : Ending) (kept : Option Credentials) (e : Errand) (was now up : Bool) (who : Option Credentials) (before ear : TalkState) (u : Turn) : Type 0 where

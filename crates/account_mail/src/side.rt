@@ -2,9 +2,9 @@
 ghost use Rattle.std.specs.Prelude.{◌≡◌, [], true, false, Some, None, IsSome, IfOk, OnErr, IfSome, IfNone};
 ghost use Rattle.mail_talk.specs.States.{nothing_told};
 ghost use Rattle.account_turns.specs.Exchanges.{IsCausedBy};
-ghost use Rattle.account_mail.specs.Turned.{LoggedIn, Turned, login_errand};
+ghost use Rattle.account_mail.specs.Turned.{IsKeptUser, LoggedIn, Turned, login_errand, who_without_login};
 
-use crate::turns::{follow_ask, log_in};
+use crate::turns::{credentials, follow_ask, forgets, log_in};
 use account_turns::{Credentials, Ending};
 use mail_io::Link;
 use mail_talk::{Listener, Told};
@@ -62,6 +62,45 @@ impl<L: Link> MailSide<L> {
         self.who.as_ref()
     }
 
+    /// Takes the account down, and lets the next dial forget what was told.
+    pub fn forget(&mut self)
+        ensures { self.new ≡ record self.old { up = false; fresh = true } }
+    {
+        self.up = false;
+        self.fresh = true;
+    }
+
+    /// Takes the account down: the next ask logs in.
+    pub fn shut(&mut self)
+        ensures { self.new ≡ record self.old { up = false } }
+    {
+        self.up = false;
+    }
+
+    /// Copies whom a login of `user` that is taken back leaves: who is kept, or nobody if its dial forgets what was told.
+    pub fn who_without_login(
+        &self,
+        alloc: Global,
+        user: &Text,
+    ) -> Result<Option<Credentials>, Memory>
+        ensures { IfOk result (λ who. who ≡ who_without_login user.now self.now.who self.now.fresh) }
+    {
+        if forgets(self.fresh, &self.who, user) {
+            return Ok(None);
+        }
+        match &self.who {
+            Some(who) => Ok(Some(credentials(alloc, &who.user, &who.password)?)),
+            None => Ok(None),
+        }
+    }
+
+    /// Keeps other credentials than those of the last login.
+    pub fn restore(&mut self, who: Option<Credentials>)
+        ensures { self.new ≡ record self.old { who = who } }
+    {
+        self.who = who;
+    }
+
     /// Carries out an ask in one turn. If the account isn't logged in, it logs in first. Out of memory, it is down, and the next dial forgets
     /// what was told.
     pub fn carry_out(&mut self, alloc: Global, ask: &Ask) -> Result<Ending, Memory>
@@ -99,6 +138,7 @@ impl<L: Link> MailSide<L> {
         ensures logged_in { LoggedIn (login_errand user.now password.now) self.old self.new result }
         ensures fault { IfOk result (λ ending. IsCausedBy ending self.old.faults self.new.faults) }
         ensures memory { OnErr result ((self.new.up ≡ false) × (self.new.fresh ≡ true)) }
+        ensures user { IfOk result (λ ending. IsKeptUser ending user.now password.now self.new.who) }
         ensures same_user_on_err { OnErr result (self.new.who ≡ self.old.who) }
     {
         match log_in(

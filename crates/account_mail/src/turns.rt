@@ -5,7 +5,7 @@ ghost use Rattle.account_turns.specs.Exchanges.{IsCausedBy, IsUnheard};
 ghost use Rattle.account_turns.specs.Steps.{Matches};
 ghost use Rattle.account_turns.specs.Turns.{Continues, Turn};
 ghost use Rattle.account_mail.specs.Sides.{IsSteady};
-ghost use Rattle.account_mail.specs.Turned.{Ended, LoginEnded, is_user, login_errand, login_fresh, who_after};
+ghost use Rattle.account_mail.specs.Turned.{Ended, IsKeptUser, LoginEnded, is_user, login_errand, login_fresh, who_after};
 ghost use Rattle.account_mail.specs.Ups.{up_after};
 
 use account_script::{Progress, script};
@@ -71,7 +71,7 @@ fn is_user(who: &Option<Credentials>, user: &Text) -> bool
 }
 
 /// Whether the dial of a login forgets what was told.
-fn forgets(fresh: bool, kept: &Option<Credentials>, user: &Text) -> bool
+pub fn forgets(fresh: bool, kept: &Option<Credentials>, user: &Text) -> bool
     ensures { result ≡ login_fresh user.now kept.now fresh }
 {
     fresh || !is_user(kept, user)
@@ -85,7 +85,7 @@ fn is_fresh_next(was: bool, still: bool) -> bool
 }
 
 /// Copies a user and a password.
-fn credentials(alloc: Global, user: &Text, password: &Text) -> Result<Credentials, Memory>
+pub fn credentials(alloc: Global, user: &Text, password: &Text) -> Result<Credentials, Memory>
     ensures { IfOk result (λ who. who ≡ record { user = user.now; password = password.now }) }
 {
     Ok(Credentials {
@@ -129,6 +129,7 @@ pub fn log_in<L: Link>(
         Continues (L.talk link.old) (L.talk link.new) t (λ u. IfOk result (λ ending. LoginEnded ending kept.old (login_errand user.now password.now) fresh.old fresh.new up.new kept.new listener.old listener.new u)) }
     ensures fault { IfOk result (λ ending. IsCausedBy ending (L.faults link.old) (L.faults link.new)) }
     ensures steady { IfOk result (λ ending. IsSteady up.new fresh.new listener.new) }
+    ensures user { IfOk result (λ ending. IsKeptUser ending user.now password.now kept.new) }
     ensures same_user_on_err { OnErr result (kept.new ≡ kept.old) }
 {
     let who = credentials(alloc, user, password)?;
