@@ -1,0 +1,3 @@
+pub mod AnswersExamples
+pub mod DoneExamples
+pub mod SafeAnswers
