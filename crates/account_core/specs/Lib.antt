@@ -1,0 +1,4 @@
+pub mod Accounts
+pub mod Turned
+pub mod Logins
+pub mod Laws

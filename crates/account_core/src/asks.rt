@@ -1,0 +1,48 @@
+//! The turn of an ask.
+ghost use Rattle.std.specs.Prelude.{◌≡◌, ◌<◌, true, Ok, IsSome, IfOk, IfSome};
+ghost use Rattle.account_script.specs.Asks.{has_script};
+ghost use Rattle.account_turns.specs.Exchanges.{IsCausedBy};
+ghost use Rattle.account_core.specs.Turned.{AskTurn, answer_of};
+
+use account_answers::{Answer, done_answer, stopped_answer, unreachable_answer};
+use account_mail::MailSide;
+use account_turns::Ending;
+use mail_io::Link;
+use mail_talk::Told;
+use mail_values::{Memory, Text};
+use site_asks::Ask;
+use std::alloc::Global;
+
+/// Returns the answer to an ask whose script ended.
+fn ended_answer(
+    alloc: Global,
+    ask: &Ask,
+    key: &Text,
+    ending: &Ending,
+    told: &Told,
+) -> Result<Answer, Memory>
+    requires served { has_script ask.now ≡ true }
+    ensures equals { IfOk result (λ answer. answer ≡ answer_of ask.now key.now ending.now told.now) }
+{
+    match ending {
+        Ending::Done => done_answer(alloc, ask, key, told),
+        Ending::Stopped(cause) => stopped_answer(alloc, cause),
+        Ending::Failed => unreachable_answer(alloc),
+    }
+}
+
+/// Carries out an ask, and returns its answer.
+pub fn answer_ask<L: Link>(
+    alloc: Global,
+    mail: &mut MailSide<L>,
+    key: &Text,
+    ask: &Ask,
+) -> Result<Answer, Memory>
+    requires known { IsSome mail.old.who }
+    requires served { has_script ask.now ≡ true }
+    ensures turn { IfSome mail.old.who (λ who. AskTurn (record { who = who; ask = ask.now }) key.now mail.old mail.new result) }
+    ensures same_user { mail.new.who ≡ mail.old.who }
+{
+    let ending = mail.carry_out(alloc, ask)?;
+    ended_answer(alloc, ask, key, &ending, mail.told())
+}
