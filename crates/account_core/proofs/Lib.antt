@@ -1,2 +1,3 @@
 pub mod LoginLemmas
 pub mod ScriptLaws
+pub mod AnswerLaws

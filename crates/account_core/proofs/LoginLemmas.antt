@@ -1,13 +1,11 @@
 -- Logins that run out of memory.
-use Rattle.std.proofs.Common.{◌≡◌, ℕ, List, [], Bool, true, false, refl, Option, Some, None}
-use Rattle.std.specs.Prelude.{Result, Ok, Err, IfOk}
+use Rattle.std.proofs.Common.{ℕ, List, [], refl, Option, Some, None}
+use Rattle.std.specs.Prelude.{Err}
 use Rattle.account_pictures.specs.declared.talk.Piece.{Piece}
-use Rattle.account_turns.specs.declared.endings.Ending.{Ending}
 use Rattle.account_turns.specs.Turns.{with_piece}
 use Rattle.turn_algebra.specs.Going.{GrowsBy}
 use Rattle.account_mail.specs.Sides.{IsTalk, SideState}
 use Rattle.account_mail.specs.Turned as mail
-use Rattle.account_core.specs.declared.faults.LoginFault.{LoginFault}
 use Rattle.account_core.specs.declared.faults.LoginFault.TheVariants as fault
 use Rattle.account_core.specs.Logins.{LoginTurn}
 

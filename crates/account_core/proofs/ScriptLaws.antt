@@ -1,6 +1,6 @@
 -- What is due at each step of a script that nothing stops.
-use Rattle.std.proofs.Common.{◌≡◌, ℕ, ◌+◌, Bool, true, false, List, [], ◌∷◌, ◌++◌, Option, Some, refl, ap, ◌∙◌}
-use Rattle.std.specs.Prelude.{if◌then◌else◌, nat_lt}
+use Rattle.std.proofs.Common.{◌≡◌, ℕ, Bool, true, false, List, [], ◌∷◌, Option, Some, refl, ap, ◌∙◌}
+use Rattle.std.specs.Prelude.{if◌then◌else◌}
 use Rattle.account_pictures.specs.declared.records.Address.{Address}
 use Rattle.site_asks.specs.declared.asks.Ask.TheVariants as ask
 use Rattle.imap_commands.specs.declared.command.Command.TheVariants as command
@@ -15,7 +15,7 @@ use Rattle.account_script.specs.declared.steps.Progress.{Progress}
 use Rattle.account_script.specs.declared.steps.Step.{Step}
 use Rattle.account_script.specs.declared.steps.Step.TheVariants as step
 use Rattle.account_script.specs.Asks.{address_of, folder_of}
-use Rattle.account_script.specs.Script.{body_act, body_of, check_act, check_size_act, fetch_body_act, has_folder, is_selected, known_of, message_limit, row_act, row_of, size_act, validity_of}
+use Rattle.account_script.specs.Script.{body_act, check_act, check_size_act, fetch_body_act, is_selected, known_of, row_act, row_of, size_act, validity_of}
 use Rattle.account_turns.specs.Turns.{Due, Errand, due_by, ready}
 use Rattle.account_core.specs.Laws.{CatchesUp, FetchesBody, IsThere, ListsFolders, LogsIn, after_entry, box_of}
 

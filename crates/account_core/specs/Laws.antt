@@ -1,7 +1,6 @@
 -- What is said for an ask of an account that is up, command by command, if nothing stops its script.
-use Rattle.std.specs.Prelude.{◌≡◌, ℕ, ◌+◌, ◌==◌, nat_lt, Bool, true, false, List, [], ◌∷◌, ◌++◌, Option, Some}
+use Rattle.std.specs.Prelude.{◌≡◌, ℕ, ◌+◌, ◌==◌, nat_lt, Bool, true, false, List, [], ◌∷◌, ◌++◌, Option, Some, is_some}
 use Rattle.account_pictures.specs.declared.records.Address.{Address}
-use Rattle.site_asks.specs.declared.asks.Ask.{Ask}
 use Rattle.site_asks.specs.declared.asks.Ask.TheVariants as ask
 use Rattle.imap_commands.specs.declared.command.Command.{Command}
 use Rattle.imap_commands.specs.declared.command.Command.TheVariants as command
@@ -10,13 +9,20 @@ use Rattle.mailbox_rows.specs.declared.row.Row.{Row}
 use Rattle.mailbox_rows.specs.Mailboxes.{MailboxState}
 use Rattle.mailbox_view.specs.Selections.{box_named}
 use Rattle.mail_talk.specs.States.{ToldState}
+use Rattle.mime_tree.specs.Best.{part_at}
+use Rattle.mime_tree.specs.Opening.{tree_of}
+use Rattle.mime_tree.specs.Tree.{PartValue}
+use Rattle.mail_pages.specs.ShowPage.{shown_at}
+use Rattle.account_turns.specs.declared.endings.Ending.TheVariants.{Done}
+use Rattle.account_answers.specs.Done.{body_at}
 use Rattle.account_script.specs.declared.steps.Progress.{Progress}
 use Rattle.account_script.specs.declared.steps.Step.{Step}
 use Rattle.account_script.specs.declared.steps.Step.TheVariants as step
-use Rattle.account_script.specs.Asks.{catch_up, folder_of, address_of, login_steps, read_message, script_of}
+use Rattle.account_script.specs.Asks.{catch_up, folder_of, login_steps, read_message, script_of}
 use Rattle.account_script.specs.Script.{body_of, has_folder, is_selected, known_of, mark_of, message_limit, next_uid, row_of, rows_of, validity_of}
 use Rattle.account_turns.specs.Causes.{last_of}
 use Rattle.account_turns.specs.Turns.{Due, Errand, ready}
+use Rattle.account_core.specs.Turned.{answer_of}
 use Rattle.account_turns.specs.Turns.Due.{Dials, Ends, Says}
 
 -- a command is due, with its number, and these steps after it
@@ -82,3 +88,12 @@ pub record LogsIn (e : Errand) (more : List Step) : Type 0 where
   pub enable : (p : Progress) (t : ToldState) → ready e false p (after_capability more) t ≡ says t command.Enable (step.List ∷ step.Admit ∷ more) p
   pub list : (p : Progress) (t : ToldState) → ready e false p (step.List ∷ step.Admit ∷ more) t ≡ says t command.List (step.Admit ∷ more) p
   pub admits : (p : Progress) (t : ToldState) → ready e false p (step.Admit ∷ more) t ≡ ready e false (record { up = true; mark = p.mark }) more t
+
+-- ---- completeness
+
+-- a script that came to its end is answered 200, if what was asked for was told
+pub record AnswersAll : Type 0 where
+  pub folders : (key : List ℕ) (t : ToldState) → (answer_of ask.Folders key Done t).status ≡ 200
+  pub list : (folder : List ℕ) (page : ℕ) (key : List ℕ) (t : ToldState) (box : MailboxState) (validity : ℕ) → box_named folder t.view.boxes ≡ Some box → box.validity ≡ Some validity → (answer_of (ask.List folder page) key Done t).status ≡ 200
+  pub shown : (at : Address) (part : Option (List ℕ)) (images : Bool) (key : List ℕ) (t : ToldState) (message : List ℕ) → body_at at t.results.message ≡ Some message → is_some (shown_at message part) ≡ true → (answer_of (ask.Show at part images) key Done t).status ≡ 200
+  pub part : (at : Address) (section : List ℕ) (key : List ℕ) (t : ToldState) (message : List ℕ) (p : PartValue) → body_at at t.results.message ≡ Some message → part_at section (tree_of message).parts ≡ Some p → (answer_of (ask.Part at section) key Done t).status ≡ 200

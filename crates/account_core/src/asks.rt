@@ -1,8 +1,8 @@
 //! The turn of an ask.
-ghost use Rattle.std.specs.Prelude.{◌≡◌, ◌<◌, true, Ok, IsSome, IfOk, IfSome};
+ghost use Rattle.std.specs.Prelude.{◌≡◌, ◌<◌, true, Ok, IsSome, IfOk, OnOk, IfSome};
 ghost use Rattle.account_script.specs.Asks.{has_script};
 ghost use Rattle.account_turns.specs.Exchanges.{IsCausedBy};
-ghost use Rattle.account_core.specs.Turned.{AskTurn, answer_of};
+ghost use Rattle.account_core.specs.Turned.{AskTurn, IsSafeEnd, answer_of};
 
 use account_answers::{Answer, done_answer, stopped_answer, unreachable_answer};
 use account_mail::MailSide;
@@ -23,6 +23,7 @@ fn ended_answer(
 ) -> Result<Answer, Memory>
     requires served { has_script ask.now ≡ true }
     ensures equals { IfOk result (λ answer. answer ≡ answer_of ask.now key.now ending.now told.now) }
+    ensures is_safe { OnOk result (IsSafeEnd ask.now key.now ending.now told.now) }
 {
     match ending {
         Ending::Done => done_answer(alloc, ask, key, told),

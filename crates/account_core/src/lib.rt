@@ -14,6 +14,7 @@ pub use account::Account;
 pub use account_answers::{Answer, Cause};
 pub use faults::LoginFault;
 pub use laws::{
-    folders_are_caught_up, folders_are_listed, members_are_logged_in, messages_are_fetched,
+    asks_are_answered, folders_are_caught_up, folders_are_listed, members_are_logged_in,
+    messages_are_fetched,
 };
 pub use mail_values::Memory;
