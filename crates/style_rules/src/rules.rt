@@ -1,5 +1,5 @@
 //! The rules of a message's style blocks.
-ghost use Rattle.std.specs.Prelude.{◌≡◌, ◌<◌, ◌≤◌, ◌||◌, [], false, true, nat_le, IfOk, OnOk, length, map, string_bytes};
+ghost use Rattle.std.specs.Prelude.{◌≡◌, ◌<◌, ◌≤◌, ◌↔◌, ◌||◌, [], false, true, nat_le, IfOk, IsTrue, OnOk, length, map, string_bytes};
 ghost use Rattle.std.specs.List.{after_last, filter_map, list_any, slice_split};
 ghost use Rattle.style_wash.specs.Characters.{is_comma};
 ghost use Rattle.style_wash.specs.Declarations.{declarations, stylewash};
@@ -48,6 +48,13 @@ impl Rules {
         Rules {
             rules: Vec::new(alloc),
         }
+    }
+
+    /// Whether there are no rules.
+    pub fn is_empty(&self) -> bool
+        ensures { IsTrue result ↔ (self.now ≡ []) }
+    {
+        self.rules.is_empty()
     }
 
     /// Whether there are as many rules as a message may have.
