@@ -1,21 +1,23 @@
 -- Washed attributes are those of a message.
-use Rattle.std.proofs.Common.{◌≡◌, ℕ, Bool, true, false, not, ◌||◌, if◌then◌else◌, Option, Some, None, List, [], ◌∷◌, ◌++◌, map, codes, refl, sym, ap, subst, ◌∙◌, append-nil}
+use Rattle.std.proofs.Common.{◌≡◌, ℕ, Bool, true, false, not, ◌||◌, if◌then◌else◌, Option, Some, None, List, [], ◌∷◌, ◌++◌, map, codes, refl, sym, ap, subst, ◌∙◌, append-nil, IsTrue}
 use Rattle.std.proofs.lemmas.List.Folds.{list_all-append}
 use Rattle.std.specs.List.{list_all, filter_map, cons_option, AllByRecursion}
 use Rattle.html_syntax.specs.Token.{Attribute}
 use Rattle.html_syntax.specs.Tokenizer.{same, has_name, replace_null}
 use Rattle.html_tokens.specs.Attributes.{first_of_each}
-use Rattle.html_rules.specs.Tables.{Name, is_listed_attribute, kind_of, is_attribute_name}
+use Rattle.html_rules.specs.Tables.{Name, common_attributes, is_listed_attribute, kind_of, is_attribute_name, value_kind_rows}
 use Rattle.html_rules.specs.Tokens.{replace_nulls}
-use Rattle.html_rules.specs.Values.{is_value_of_attribute}
+use Rattle.html_rules.specs.Values.{is_empty, is_value_of, is_value_of_attribute}
 use Rattle.html_rules.specs.MessageTokens.{is_message_attribute}
 use Rattle.html_rules.specs.declared.ValueKind.{ValueKind}
-use Rattle.html_rules.proofs.Facts.{and_true, no_of}
+use Rattle.html_rules.proofs.Facts.{and_true, no_of, or_false}
 use Rattle.html_rules.proofs.Parts.{both_true, or_left, or_right}
 use Rattle.wash_attributes.specs.Given.{Given}
 use Rattle.wash_attributes.specs.Values.{written_value}
-use Rattle.wash_attributes.specs.Attributes.{attribute_with, written_value_of_kind, kept_attribute, kept_attributes, link_protection, washed_attributes}
+use Rattle.wash_attributes.specs.Attributes.{attribute, attribute_with, written_value_of_kind, kept_attribute, kept_attributes, with_declared, with_style, link_protection, washed_attributes}
 use Rattle.wash_attributes.specs.Soundness.{as_written, IsSound, AreMessageAttributes}
+use Rattle.style_wash.specs.Declarations.{is_style}
+use Rattle.wash_attributes.proofs.JoinedStyles.{joined_style}
 use Rattle.wash_attributes.proofs.ListedNames.{listed_name}
 use Rattle.wash_attributes.proofs.WrittenValues.{IsOfKind, written_of_kind}
 
@@ -126,8 +128,34 @@ tag_allowed images own element kept true h e = protected_tag images own element 
 tag_allowed images own element kept false h e =
     subst (λ (xs : List Attribute). AreMessageAttributes images own element (replace_nulls xs)) (sym (append-nil kept)) (unprotected_tag images own element kept h e)
 
-pub washed_allowed : (given : Given) (own : List ℕ → Bool) (element : Name) (attributes : List Attribute) → IsSound given own → AreMessageAttributes given.images own element (replace_nulls (washed_attributes given element attributes))
-unfolding washed_attributes kept_attributes
-washed_allowed given own element attributes sound =
-    let kept = kept_attributes given element attributes in
-    tag_allowed given.images own element kept (has_name (codes "href") kept) (all_kept given own element (first_of_each attributes) sound) refl
+-- ---- what rules declare
+
+all_append : (P : Attribute → Type 0) (xs ys : List Attribute) → AllByRecursion P xs → AllByRecursion P ys → AllByRecursion P (xs ++ ys)
+all_append P [] ys f g = g
+all_append P (x ∷ xs) ys f g = (f.0, all_append P xs ys f.1 g)
+
+style_kept : (images : Bool) (own : List ℕ → Bool) (element : Name) (declared : List ℕ) → is_empty declared ≡ false → is_style (as_written declared) ≡ true → IsKept images own element (attribute (codes "style") declared)
+unfolding is_listed_attribute common_attributes is_value_of_attribute kind_of value_kind_rows is_value_of
+style_kept images own element [] some style = absurd cc
+style_kept images own element (c ∷ cs) some style = record { listed = refl; value = both_true (is_style (as_written (c ∷ cs))) true style refl }
+
+all_with_style : (images : Bool) (own : List ℕ → Bool) (element : Name) (declared : List ℕ) (kept : List Attribute) → is_style (as_written declared) ≡ true → AllByRecursion (IsKept images own element) kept → AllByRecursion (IsKept images own element) (with_style declared kept)
+all_with_style images own element declared kept style h =
+    elim (is_empty declared || has_name (codes "style") kept) as (λ b. (is_empty declared || has_name (codes "style") kept) ≡ b → AllByRecursion (IsKept images own element) (kept ++ (if b then [] else attribute (codes "style") declared ∷ []))) [
+      | true ↦ λ e. all_append (IsKept images own element) kept [] h tt
+      | false ↦ λ e. all_append (IsKept images own element) kept (attribute (codes "style") declared ∷ []) h (style_kept images own element declared (or_false (is_empty declared) _ e).0 style, tt)
+    ] refl
+
+declared_sound : (given : Given) (own : List ℕ → Bool) (declared : List ℕ) → IsSound given own → is_style (as_written declared) ≡ true → IsSound (with_declared declared given) own
+unfolding with_declared
+declared_sound given own declared sound style = record {
+  targets = sound.targets;
+  styles = λ text. joined_style declared (given.stylewash text) style (sound.styles text);
+}
+
+pub washed_allowed : (given : Given) (own : List ℕ → Bool) (declared : List ℕ) (element : Name) (attributes : List Attribute) → IsSound given own → IsTrue (is_style (as_written declared)) → AreMessageAttributes given.images own element (replace_nulls (washed_attributes given declared element attributes))
+unfolding washed_attributes kept_attributes with_declared
+washed_allowed given own declared element attributes sound style =
+    let kept = with_style declared (kept_attributes (with_declared declared given) element attributes) in
+    tag_allowed given.images own element kept (has_name (codes "href") kept)
+    (all_with_style given.images own element declared _ style (all_kept (with_declared declared given) own element (first_of_each attributes) (declared_sound given own declared sound style))) refl

@@ -1,5 +1,5 @@
 -- Values whose characters are ASCII are the same as bytes and as characters.
-use Rattle.std.proofs.Common.{◌≡◌, ℕ, zero, suc, ◌-◌, Bool, true, false, nat_lt, IsTrue, List, [], ◌∷◌, ◌++◌, length, take, drop, reverse, IsUtf8, IsAscii, chars, encode_utf8_all, Option, Some, None, if◌then◌else◌, refl, sym, ap, ◌∙◌, arith, inl, inr, ltb-true}
+use Rattle.std.proofs.Common.{◌≡◌, ℕ, zero, suc, ◌-◌, Bool, true, false, nat_lt, List, [], ◌∷◌, ◌++◌, length, take, drop, reverse, IsUtf8, IsAscii, chars, Some, None, refl, sym, ap, ◌∙◌, arith, inl, inr, ltb-true}
 use Rattle.std.proofs.lemmas.Bool.{cases_Bool}
 use Rattle.std.proofs.lemmas.Bool.Decides.{nat_tests}
 use Rattle.std.proofs.lemmas.List.{reverse-reverse, reverse-append, length-reverse, length-drop, take-append-drop}
@@ -7,17 +7,16 @@ use Rattle.std.proofs.lemmas.List.Folds.{list_all-append}
 use Rattle.std.proofs.Math.Seq.{take-append_seam}
 use Rattle.std.proofs.lemmas.Str.{chars-IsAscii, encodes-chars, encodes-IsAscii}
 use Rattle.std.specs.List.{list_all, prefix_len}
-use Rattle.html_rules.specs.Values.{is_empty, is_number, is_word, is_word_char}
+use Rattle.html_rules.specs.Values.{is_number, is_word, is_word_char}
 use Rattle.html_rules.proofs.Facts.{and_true}
 use Rattle.html_rules.proofs.Parts.{both_true}
 use Rattle.style_wash.specs.Characters.{is_white, is_style_char, trimmed, without_front, without_back}
 use Rattle.html_tokens.specs.Tags as tags
 use Rattle.html_tokens.proofs.TagRuns.{prefix_all}
 use Rattle.wash_attributes.proofs.WrittenValues.{is_number_char, number_chars}
-use Rattle.style_wash.specs.Declarations.{stylewash}
 use Rattle.wash_attributes.specs.Values.{some_if}
 
-pub is_ascii : List ℕ → Bool
+unfoldable pub is_ascii : List ℕ → Bool
 is_ascii cs = list_all (λ c. nat_lt c 128) cs
 
 pub ascii_of : (cs : List ℕ) → is_ascii cs ≡ true → IsAscii cs
@@ -155,19 +154,3 @@ pub dropped_value : (p : List ℕ → Bool) (bytes text : List ℕ) → SameAsBy
 dropped_value p bytes text same t h =
     let fails : p (trimmed bytes) ≡ false = ap p (sym t) ∙ h in
     rw (same.test ∙ fails) refl
-
-abbrev pub unless_empty : List ℕ → Option (List ℕ)
-unless_empty style = if is_empty style then None else Some style
-
-true_of : (b : Bool) → IsTrue b → b ≡ true
-true_of true h = refl
-true_of false h = absurd cc
-
-washed_bytes : (value style : List ℕ) → IsUtf8 value → style ≡ stylewash value → stylewash (encode_utf8_all (chars value)) ≡ style
-washed_bytes value style utf8 e = ap stylewash (encodes-chars value utf8) ∙ sym e
-
-pub kept_style : (value style : List ℕ) → IsUtf8 value → style ≡ stylewash value → IsTrue (list_all is_style_char style) → is_empty style ≡ false → Some (chars style) ≡ unless_empty (stylewash (encode_utf8_all (chars value)))
-kept_style value style utf8 e all f = rw (washed_bytes value style utf8 e, f) (ap Some (style_chars_same style (true_of _ all)))
-
-pub dropped_style : (value style : List ℕ) → IsUtf8 value → style ≡ stylewash value → is_empty style ≡ true → None ≡ unless_empty (stylewash (encode_utf8_all (chars value)))
-dropped_style value style utf8 e n = rw (washed_bytes value style utf8 e, n) refl

@@ -12,7 +12,7 @@ use Rattle.html_rules.proofs.Facts.{same-true}
 use Rattle.html_tokens.specs.Attributes.{first_of_each}
 use Rattle.wash_attributes.specs.Given.{Given}
 use Rattle.wash_attributes.specs.Values.{written_value}
-use Rattle.wash_attributes.specs.Attributes.{attribute, attribute_with, written_value_of_kind, kept_attribute, kept_attributes, washed_attributes}
+use Rattle.wash_attributes.specs.Attributes.{attribute, attribute_with, written_value_of_kind, kept_attribute, kept_attributes}
 use Rattle.wash_attributes.specs.Keeping.{KeptValue, listed_attribute, is_new, kept_with, to_list, with_attribute}
 
 abbrev differs : Attribute → Attribute → Bool
@@ -121,8 +121,8 @@ unfolding kept_with kept_attributes
 all_kept given listed element attributes f =
     ap (filter_map (listed_attribute given listed)) (filter_none (first_of_each attributes)) ∙ kept_same given listed element (first_of_each attributes) f
 
-pub no_attributes : (given : Given) (element : Name) (attributes : List Attribute) → attributes ≡ [] → [] ≡ washed_attributes given element attributes
-unfolding washed_attributes kept_attributes
+pub no_attributes : (given : Given) (element : Name) (attributes : List Attribute) → attributes ≡ [] → [] ≡ kept_attributes given element attributes
+unfolding kept_attributes
 no_attributes given element attributes e = rw e refl
 
 -- ---- one attribute

@@ -1,5 +1,5 @@
 -- What references and the washing of styles return may be written into a page.
-use Rattle.std.proofs.Common.{◌≡◌, ℕ, Bool, true, false, ◌&&◌, eqb, if◌then◌else◌, List, [], ◌∷◌, codes, chars, encode_utf8_all, refl, arith, Some, None}
+use Rattle.std.proofs.Common.{◌≡◌, ℕ, Bool, true, false, ◌&&◌, eqb, if◌then◌else◌, List, [], ◌∷◌, codes, chars, encode_utf8_all, refl, ap, subst, ◌∙◌, arith, Some, None}
 use Rattle.std.proofs.lemmas.Bool.Decides.{nat_tests}
 use Rattle.std.proofs.lemmas.Slice.Eq.{bytes_eq-Decides}
 use Rattle.std.specs.List.{list_all}
@@ -12,6 +12,7 @@ use Rattle.html_rules.proofs.Facts.{and_true, same-refl}
 use Rattle.html_rules.proofs.Parts.{or_left, or_right}
 use Rattle.style_wash.specs.Characters.{is_style_char}
 use Rattle.style_wash.specs.Declarations.{stylewash, is_style}
+use Rattle.style_wash.proofs.Facts.{bytes_eq-true}
 use Rattle.style_wash.proofs.Styles.{washing_is_idempotent, washed_characters}
 use Rattle.cid_parts.specs.declared.refs.Ref.{Ref}
 use Rattle.cid_parts.specs.declared.refs.Ref.TheVariants as ref
@@ -22,6 +23,7 @@ use Rattle.wash_attributes.specs.Given.{Target}
 use Rattle.wash_attributes.specs.Given.Target.{Part, Remote, Link, Nothing}
 use Rattle.wash_attributes.specs.Addresses.{part_address, target_of, given_of}
 use Rattle.wash_attributes.specs.Soundness.{as_written, is_sound_target, IsSound, is_part_address}
+use Rattle.wash_attributes.proofs.AsciiValues.{style_chars_same}
 use Rattle.wash_attributes.proofs.ListedNames.{or_true}
 use Rattle.wash_attributes.proofs.WrittenValues.{as_written_same}
 
@@ -124,3 +126,15 @@ references_sound r place images = record {
   targets = λ address. refer_sound r place (encode_utf8_all address);
   styles = λ style. style_sound (encode_utf8_all style);
 }
+
+-- ---- what rules declare
+
+style_is : (style : List ℕ) → is_style style ≡ true → stylewash style ≡ style
+unfolding is_style
+style_is style h = bytes_eq-true (stylewash style) style h
+
+-- a style is one as it is written
+pub written_style : (style : List ℕ) → is_style style ≡ true → is_style (as_written (chars style)) ≡ true
+written_style style h =
+    let all : list_all is_style_char style ≡ true = subst (λ (t : List ℕ). list_all is_style_char t ≡ true) (style_is style h) (washed_characters style) in
+    ap (λ (t : List ℕ). is_style (as_written t)) (style_chars_same style all) ∙ ap is_style (as_written_same is_style_char style_char style all) ∙ h

@@ -1,8 +1,10 @@
 pub mod Given
 pub mod Values
+pub mod FirstValues
 pub mod Attributes
 pub mod Soundness
 pub mod Listed
 pub mod Addresses
+pub mod Washing
 pub mod Written
 pub mod Keeping

@@ -39,8 +39,9 @@ pub record AreMessageAttributes (images : Bool) (own : List ℕ → Bool) (eleme
 -- Each washed attribute is listed for its element, with a value of its kind, and each link opens in a new window.
 abbrev pub KeptAttributesAreAllowed : Type 0
 KeptAttributesAreAllowed =
-    (given : Given) (own : List ℕ → Bool) (element : Name) (attributes : List Attribute) → IsSound given own
-    → AreMessageAttributes given.images own element (replace_nulls (washed_attributes given element attributes))
+    (given : Given) (own : List ℕ → Bool) (declared : List ℕ) (element : Name) (attributes : List Attribute) → IsSound given own
+    → IsTrue (is_style (as_written declared))
+    → AreMessageAttributes given.images own element (replace_nulls (washed_attributes given declared element attributes))
 
 -- the address of one of the parts, as it is written
 abbrev pub is_part_address : Place → List LocatedPart → List ℕ → Bool

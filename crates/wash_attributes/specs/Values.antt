@@ -11,6 +11,10 @@ use Rattle.wash_attributes.specs.Given.Target.{Part, Remote, Link, Nothing}
 abbrev pub some_if : Bool → List ℕ → Option (List ℕ)
 some_if passes value = if passes then Some value else None
 
+-- the text unless it is empty
+abbrev pub unless_empty : List ℕ → Option (List ℕ)
+unless_empty text = if is_empty text then None else Some text
+
 -- the address that a link to the target has
 abbrev pub link_address : Target → Option (List ℕ)
 link_address (Part address) = None
@@ -34,4 +38,4 @@ written_value given kind.Flag value = Some []
 written_value given kind.Text value = Some value
 written_value given kind.Link value = link_address (given.refer value)
 written_value given kind.Source value = picture_address given.images (given.refer value)
-written_value given kind.Style value = if is_empty (given.stylewash value) then None else Some (given.stylewash value)
+written_value given kind.Style value = unless_empty (given.stylewash value)

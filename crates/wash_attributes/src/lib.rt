@@ -4,12 +4,14 @@
 #![tactic(auto)]
 
 pub mod attributes;
+mod first;
 mod laws;
 pub mod names;
 pub mod place;
 mod values;
 
 pub use attributes::wash_attributes;
+pub use first::{attribute_text, first_attribute};
 pub use laws::{kept_attributes_are_allowed, references_are_sound};
 pub use place::Place;
 pub use std::alloc::AllocError as Memory;

@@ -1,12 +1,14 @@
 //! The values that are written.
-ghost use Rattle.std.specs.Prelude.{◌≡◌, true, false, drop, IfOk, MatchOption, Some, None, chars, encode_utf8_all, if◌then◌else◌};
+ghost use Rattle.std.specs.Prelude.{◌≡◌, true, false, drop, IfOk, MatchOption, chars, string_bytes, encode_utf8_all};
 ghost use Rattle.std.specs.List.{list_all};
 ghost use Rattle.html_rules.specs.Values.{is_empty, has_at_most_digits, is_digits_percent, is_number, is_word, is_word_char};
 ghost use Rattle.style_wash.specs.Characters.{trimmed};
 ghost use Rattle.style_wash.specs.Declarations.{stylewash};
 ghost use Rattle.cid_parts.specs.Refer.{IsSafe};
-ghost use Rattle.wash_attributes.specs.Values.{some_if, link_address, picture_address, written_value};
-ghost use Rattle.wash_attributes.specs.Addresses.{target_of, given_of};
+ghost use Rattle.wash_attributes.specs.Values.{some_if, unless_empty, link_address, picture_address, written_value};
+ghost use Rattle.wash_attributes.specs.Addresses.{target_of};
+ghost use Rattle.wash_attributes.specs.Attributes.{join_styles};
+ghost use Rattle.wash_attributes.specs.Washing.{given_in};
 ghost use Rattle.wash_attributes.specs.Written.{text_in, begins_with_digit, ends_number};
 
 use crate::Memory;
@@ -128,7 +130,8 @@ fn word(alloc: Global, value: &str) -> Result<Option<String>, Memory>
     }
 }
 
-fn is_empty(text: &str) -> bool
+/// Whether the text is empty.
+pub fn is_empty(text: &str) -> bool
     ensures { result ≡ is_empty text.now }
 {
     match text.as_bytes() {
@@ -137,10 +140,28 @@ fn is_empty(text: &str) -> bool
     }
 }
 
-fn style(alloc: Global, value: &str) -> Result<Option<String>, Memory>
-    ensures { IfOk result (λ written. text_in written ≡ (if is_empty (stylewash (encode_utf8_all (chars value.now))) then None else Some (stylewash (encode_utf8_all (chars value.now))))) }
+/// Returns a style after what rules declare.
+fn join_styles(alloc: Global, declared: &str, own: String) -> Result<String, Memory>
+    ensures { IfOk result (λ style. chars (string_bytes style) ≡ join_styles (chars declared.now) (chars (string_bytes own))) }
 {
-    let style = wash_style(alloc, value)?;
+    if is_empty(declared) {
+        return Ok(own);
+    }
+    let mut style = String::from_str(alloc, declared)?;
+    if is_empty(own.as_str()) {
+        return Ok(style);
+    }
+    style.push_str("; ")?;
+    style.push_str(own.as_str())?;
+    Ok(style)
+}
+
+/// Returns the washed style after what rules declare, if it isn't empty.
+fn style(alloc: Global, value: &str, declared: &str) -> Result<Option<String>, Memory>
+    ensures { IfOk result (λ written. text_in written ≡ unless_empty (join_styles (chars declared.now) (stylewash (encode_utf8_all (chars value.now))))) }
+{
+    let own = wash_style(alloc, value)?;
+    let style = join_styles(alloc, declared, own)?;
     if is_empty(style.as_str()) {
         Ok(None)
     } else {
@@ -184,14 +205,14 @@ fn picture_address(
 }
 
 /// Returns the value that is written for an attribute's value, if any.
-#[tactic(auto, unfolding(crate::specs::Values::written_value, crate::specs::Addresses::given_of))]
+#[tactic(auto, unfolding(crate::specs::Values::written_value, crate::specs::Addresses::given_of, crate::specs::Attributes::with_declared))]
 pub fn written_value(
     alloc: Global,
     kind: ValueKind,
     value: &str,
-    with: &Washing<'_, '_, '_, '_>,
+    with: &Washing<'_, '_, '_, '_, '_>,
 ) -> Result<Option<String>, Memory>
-    ensures { IfOk result (λ written. text_in written ≡ written_value (given_of with.now.references.now with.now.place.now with.now.images) kind (chars value.now)) }
+    ensures { IfOk result (λ written. text_in written ≡ written_value (given_in with.now) kind (chars value.now)) }
 {
     match kind {
         ValueKind::Number => number(alloc, value),
@@ -203,6 +224,6 @@ pub fn written_value(
             let reference = with.references.refer(alloc, value)?;
             picture_address(alloc, reference, with.place, with.images)
         }
-        ValueKind::Style => style(alloc, value),
+        ValueKind::Style => style(alloc, value, with.declared),
     }
 }

@@ -2,7 +2,7 @@ use Rattle.std.proofs.Common.{◌≡◌, ◌++◌, List, chars, map, sym, ap, su
 use Rattle.std.specs.Prelude.{OnOk}
 use Rattle.html_syntax.specs.Token.{Attribute, attribute_of}
 use Rattle.wash_attributes.specs.Values.{written_value}
-use Rattle.wash_attributes.specs.Addresses.{given_of}
+use Rattle.wash_attributes.specs.Washing.{given_in}
 use Rattle.wash_attributes.specs.Written.{text_in}
 use Rattle.wash_attributes.proofs.AsciiValues.{word_chars_same}
 use Rattle.wash_attributes.proofs.KeepingLemmas.{written_attribute}
@@ -11,7 +11,7 @@ use Rattle.wash_attributes.proofs.attributes.push_attribute.Goals as goal
 pub returns-in-Some-2 : goal.returns-in-Some-2
 returns-in-Some-2 c =
     let with = c.args.with.now in
-    let given = given_of with.references.now with.place.now with.images in
+    let given = given_in with in
     let name = c.args.name.now in
     let value = c.args.attribute.now.value in
     let read = ap chars c.as_str.ensures.value ∙ c.in_ok-value.ensures in

@@ -1,7 +1,7 @@
 use Rattle.std.proofs.Common.{◌++◌, sym, ap, ◌∙◌}
 use Rattle.html_syntax.specs.Tokenizer.{is_among}
 use Rattle.html_rules.specs.Tables.{common_attributes}
-use Rattle.wash_attributes.specs.Addresses.{given_of}
+use Rattle.wash_attributes.specs.Washing.{given_in}
 use Rattle.wash_attributes.specs.Listed.{texts_seen}
 use Rattle.wash_attributes.specs.Keeping.{KeptValue, kept_with}
 use Rattle.wash_attributes.proofs.KeepingLemmas.{on_ok_map, not_listed, known_name, new_name}
@@ -19,7 +19,7 @@ returns-then-is_among c rest =
 pub returns : goal.returns
 returns c =
     let with = c.args.with.now in
-    let given = given_of with.references.now with.place.now with.images in
+    let given = given_in with in
     let listed = common_attributes ++ texts_seen c.args.own.now in
     let a = c.args.attribute.now in
     let names = ap (λ (k : KeptValue). k.names) (sym c.self.view_is) ∙ sym (ap texts_seen c.as_slice.ensures.value) in
