@@ -1,15 +1,16 @@
 -- Washed attributes have different names, which a page may have.
-use Rattle.std.proofs.Common.{◌≡◌, ℕ, Bool, true, false, not, cond, if◌then◌else◌, Option, Some, None, List, [], ◌∷◌, ◌++◌, codes, refl, sym, ap, subst, ◌∙◌, append-nil}
+use Rattle.std.proofs.Common.{◌≡◌, ℕ, Bool, true, false, not, ◌||◌, cond, if◌then◌else◌, Option, Some, None, List, [], ◌∷◌, ◌++◌, codes, refl, sym, ap, subst, ◌∙◌, append-nil}
 use Rattle.std.specs.List.{filter, filter_map, cons_option, AllByRecursion}
 use Rattle.html_syntax.specs.Token.{Attribute}
 use Rattle.html_syntax.specs.Tokenizer.{same, has_name}
 use Rattle.html_tokens.specs.Attributes.{first_of_each}
 use Rattle.html_rules.specs.Tables.{Name, is_listed_attribute, is_attribute_name, kind_of, common_attributes, attribute_rows, link_attributes, frame_attributes}
+use Rattle.html_rules.specs.Values.{is_empty}
 use Rattle.html_rules.proofs.Facts.{and_true, no_of, or_false, same-true, same-refl}
 use Rattle.html_rules.proofs.Parts.{both_true}
 use Rattle.page_writer.specs.Page.{are_attributes, are_distinct}
 use Rattle.wash_attributes.specs.Given.{Given}
-use Rattle.wash_attributes.specs.Attributes.{attribute_with, written_value_of_kind, kept_attribute, kept_attributes, link_protection, washed_attributes}
+use Rattle.wash_attributes.specs.Attributes.{attribute, attribute_with, written_value_of_kind, kept_attribute, kept_attributes, with_declared, with_style, protect_link, link_protection, washed_attributes}
 use Rattle.wash_attributes.proofs.ListedNames.{listed_name}
 
 same-sym : (xs ys : List ℕ) → same xs ys ≡ false → same ys xs ≡ false
@@ -68,10 +69,10 @@ first_of_distinct (x ∷ xs) h =
     ∙ ap (λ (rest : List Attribute). x ∷ rest) (all_others x xs (no_of (has_name x.name xs) both.0))
 
 -- the attributes of a token are washed as those that are written
-pub washed_of_first : (given : Given) (element : Name) (xs : List Attribute) → washed_attributes given element (first_of_each xs) ≡ washed_attributes given element xs
+pub washed_of_first : (given : Given) (declared : List ℕ) (element : Name) (xs : List Attribute) → washed_attributes given declared element (first_of_each xs) ≡ washed_attributes given declared element xs
 unfolding washed_attributes kept_attributes
-washed_of_first given element xs =
-    ap (λ (ys : List Attribute). let kept = filter_map (kept_attribute given element) ys in kept ++ (if has_name (codes "href") kept then link_protection else [])) (first_of_distinct (first_of_each xs) (first_distinct xs))
+washed_of_first given declared element xs =
+    ap (λ (ys : List Attribute). protect_link (with_style declared (filter_map (kept_attribute (with_declared declared given) element) ys))) (first_of_distinct (first_of_each xs) (first_distinct xs))
 
 -- ---- kept attributes
 
@@ -164,13 +165,47 @@ protected_writable element (a ∷ kept) listed h =
       distinct = both_true (not (has_name a.name (kept ++ link_protection))) (are_distinct (kept ++ link_protection)) (rw lacks refl) rest.distinct;
     }
 
-pub washed_writable : (given : Given) (element : Name) (xs : List Attribute) → AreWritable (washed_attributes given element xs)
+-- ---- what rules declare
+
+style_listed : (element : Name) → is_listed_attribute element (codes "style") ≡ true
+unfolding is_listed_attribute common_attributes
+style_listed element = refl
+
+one_more_listed : (element : Name) (a : Attribute) (kept : List Attribute) → is_listed_attribute element a.name ≡ true → AllByRecursion (λ b. is_listed_attribute element b.name ≡ true) kept → AllByRecursion (λ b. is_listed_attribute element b.name ≡ true) (kept ++ a ∷ [])
+one_more_listed element a [] h all = (h, tt)
+one_more_listed element a (x ∷ kept) h all = (all.0, one_more_listed element a kept h all.1)
+
+one_more_distinct : (a : Attribute) (kept : List Attribute) → has_name a.name kept ≡ false → are_distinct kept ≡ true → are_distinct (kept ++ a ∷ []) ≡ true
+one_more_distinct a [] none h = refl
+one_more_distinct a (x ∷ kept) none h =
+    let both = and_true (not (has_name x.name kept)) (are_distinct kept) h in
+    let others = or_false (same x.name a.name) (has_name a.name kept) none in
+    let last : has_name x.name (a ∷ []) ≡ false = rw (same-sym x.name a.name others.0) refl in
+    rw (lacks_append x.name kept (a ∷ []) (no_of (has_name x.name kept) both.0) last) (one_more_distinct a kept others.1 both.1)
+
+-- attributes that may be kept of a tag of the element
+record AreKept (element : Name) (kept : List Attribute) : Type 0 where
+  listed : AllByRecursion (λ a. is_listed_attribute element a.name ≡ true) kept
+  distinct : are_distinct kept ≡ true
+
+styled_kept : (element : Name) (declared : List ℕ) (kept : List Attribute) → AreKept element kept → AreKept element (with_style declared kept)
+styled_kept element declared kept k =
+    elim (is_empty declared || has_name (codes "style") kept) as (λ b. (is_empty declared || has_name (codes "style") kept) ≡ b → AreKept element (kept ++ (if b then [] else attribute (codes "style") declared ∷ []))) [
+      | true ↦ λ e. subst (AreKept element) (sym (append-nil kept)) k
+      | false ↦ λ e. record {
+        listed = one_more_listed element (attribute (codes "style") declared) kept (style_listed element) k.listed;
+        distinct = one_more_distinct (attribute (codes "style") declared) kept (or_false (is_empty declared) _ e).1 k.distinct;
+      }
+    ] refl
+
+pub washed_writable : (given : Given) (declared : List ℕ) (element : Name) (xs : List Attribute) → AreWritable (washed_attributes given declared element xs)
 unfolding washed_attributes kept_attributes
-washed_writable given element xs =
-    let kept = filter_map (kept_attribute given element) (first_of_each xs) in
-    let listed = kept_listed given element (first_of_each xs) in
-    let distinct = kept_distinct given element (first_of_each xs) (first_distinct xs) in
+washed_writable given declared element xs =
+    let with = with_declared declared given in
+    let own = filter_map (kept_attribute with element) (first_of_each xs) in
+    let kept = with_style declared own in
+    let k = styled_kept element declared own (record { listed = kept_listed with element (first_of_each xs); distinct = kept_distinct with element (first_of_each xs) (first_distinct xs) }) in
     elim (has_name (codes "href") kept) as (λ b. AreWritable (kept ++ (if b then link_protection else []))) [
-      | true ↦ protected_writable element kept listed distinct
-      | false ↦ subst AreWritable (sym (append-nil kept)) (kept_writable element kept listed distinct)
+      | true ↦ protected_writable element kept k.listed k.distinct
+      | false ↦ subst AreWritable (sym (append-nil kept)) (kept_writable element kept k.listed k.distinct)
     ]

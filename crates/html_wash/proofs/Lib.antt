@@ -7,4 +7,6 @@ pub mod Writing
 pub mod Distinct
 pub mod Starting
 pub mod Taking
+pub mod StylingLemmas
 mod Examples
+mod StyleExamples

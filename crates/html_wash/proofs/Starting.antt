@@ -84,18 +84,18 @@ start_wrote e bytes attributes names outer old new later v is i written void nex
       };
     }
 
-pub full_start : (given : Given) (names : List Name) (name : Name) (attributes : List Attribute) (outer : List Name) (old new : Page) (later : List Name) → (is_void name || nat_lt (length later) open_limit) ≡ false → Wrote (closed_by (lookups_of name) names) outer old new later → Wrote (after_start given names name attributes) outer old new later
+pub full_start : (given : Given) (declared : List ℕ) (names : List Name) (name : Name) (attributes : List Attribute) (outer : List Name) (old new : Page) (later : List Name) → (is_void name || nat_lt (length later) open_limit) ≡ false → Wrote (closed_by (lookups_of name) names) outer old new later → Wrote (after_start given declared names name attributes) outer old new later
 unfolding after_start
-full_start given names name attributes outer old new later full w =
+full_start given declared names name attributes outer old new later full w =
     let a = closed_by (lookups_of name) names in
-    wrote_same _ _ outer old new later (full_is name (washed_tag given name attributes) a (ap (λ (ns : List Name). is_void name || nat_lt (length ns) open_limit) (sym w.left) ∙ full)) w
+    wrote_same _ _ outer old new later (full_is name (washed_tag given declared name attributes) a (ap (λ (ns : List Name). is_void name || nat_lt (length ns) open_limit) (sym w.left) ∙ full)) w
 
-pub open_start : (given : Given) (names : List Name) (e : Element) (attributes kept : List Attribute) (outer : List Name) (old mid new : Page) (opened later : List Name) → (is_void (name_of e) || nat_lt (length opened) open_limit) ≡ true → kept ≡ washed_attributes given (name_of e) attributes → Wrote (closed_by (lookups_of (name_of e)) names) outer old mid opened → Wrote (with_element (name_of e) (Start (name_of e) (replace_nulls kept)) opened) (outside opened mid.opened) mid new later → Wrote (after_start given names (name_of e) attributes) outer old new later
+pub open_start : (given : Given) (declared : List ℕ) (names : List Name) (e : Element) (attributes kept : List Attribute) (outer : List Name) (old mid new : Page) (opened later : List Name) → (is_void (name_of e) || nat_lt (length opened) open_limit) ≡ true → kept ≡ washed_attributes given declared (name_of e) attributes → Wrote (closed_by (lookups_of (name_of e)) names) outer old mid opened → Wrote (with_element (name_of e) (Start (name_of e) (replace_nulls kept)) opened) (outside opened mid.opened) mid new later → Wrote (after_start given declared names (name_of e) attributes) outer old new later
 unfolding after_start
-open_start given names e attributes kept outer old mid new opened later room is w v =
+open_start given declared names e attributes kept outer old mid new opened later room is w v =
     let name = name_of e in
     let a = closed_by (lookups_of name) names in
-    let tag = washed_tag given name attributes in
+    let tag = washed_tag given declared name attributes in
     let here : with_element name (Start name (replace_nulls kept)) opened ≡ with_element name tag a.opened =
     ap (λ (ks : List Attribute). with_element name (Start name (replace_nulls ks)) opened) is ∙ ap (with_element name tag) w.left in
     let second : Wrote (with_element name tag a.opened) outer mid new later = wrote_same _ _ outer mid new later here (wrote_as _ opened mid.opened outer mid new later w.inside v) in
@@ -104,8 +104,8 @@ open_start given names e attributes kept outer old mid new opened later room is 
 pub room_is : (name : Name) (count : ℕ) (names : List Name) (b c : Bool) → count ≡ length names → b ≡ (is_void name || nat_lt count open_limit) → b ≡ c → (is_void name || nat_lt (length names) open_limit) ≡ c
 room_is name count names b c len is e = ap (λ (n : ℕ). is_void name || nat_lt n open_limit) (sym len) ∙ sym is ∙ e
 
-pub kept_is : (given : Given) (bytes name : Name) (attributes kept : List Attribute) → bytes ≡ name → kept ≡ washed_attributes given bytes attributes → kept ≡ washed_attributes given name attributes
-kept_is given bytes name attributes kept is e = e ∙ ap (λ (n : Name). washed_attributes given n attributes) is
+pub kept_is : (given : Given) (declared : List ℕ) (bytes name : Name) (attributes kept : List Attribute) → bytes ≡ name → kept ≡ washed_attributes given declared bytes attributes → kept ≡ washed_attributes given declared name attributes
+kept_is given declared bytes name attributes kept is e = e ∙ ap (λ (n : Name). washed_attributes given declared n attributes) is
 
-pub kept_writable : (given : Given) (name : Name) (attributes kept : List Attribute) → kept ≡ washed_attributes given name attributes → AreWritable kept
-kept_writable given name attributes kept e = subst AreWritable (sym e) (washed_writable given name attributes)
+pub kept_writable : (given : Given) (declared : List ℕ) (name : Name) (attributes kept : List Attribute) → kept ≡ washed_attributes given declared name attributes → AreWritable kept
+kept_writable given declared name attributes kept e = subst AreWritable (sym e) (washed_writable given declared name attributes)

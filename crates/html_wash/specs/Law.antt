@@ -9,6 +9,8 @@ use Rattle.html_rules.specs.Nesting.{open_elements_after}
 use Rattle.html_rules.specs.MessageTokens.{is_message}
 use Rattle.wash_attributes.specs.Given.{Given}
 use Rattle.wash_attributes.specs.Soundness.{IsSound}
+use Rattle.style_rules.specs.Law.{AreWritten}
+use Rattle.html_wash.specs.Styling.{is_dropping}
 use Rattle.html_wash.specs.Wash.{State, wash_from}
 
 -- a message may have the element open
@@ -36,9 +38,9 @@ shown_characters dropping (_ ∷ ts) = shown_characters false ts
 pub record IsWashed (given : Given) (own : List ℕ → Bool) (s : State) (ts washed : List Token) : Type 0 where
   pub nested : open_elements_after s.opened washed ≡ Some []
   pub message : IsTrue (is_message given.images own washed)
-  pub shown : characters washed ≡ shown_characters s.dropping ts
+  pub shown : characters washed ≡ shown_characters (is_dropping s.styling.following) ts
 
 abbrev pub WashedIsAllowed : Type 0
 WashedIsAllowed =
     (given : Given) (own : List ℕ → Bool) (s : State) (ts : List Token) → IsSound given own → IsTrue (are_openable s.opened)
-    → IsWashed given own s ts (wash_from given s ts)
+    → AreWritten s.styling.rules → IsWashed given own s ts (wash_from given s ts)

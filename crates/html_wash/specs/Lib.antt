@@ -1,6 +1,9 @@
 pub mod Elements
 pub mod Closings
 pub mod Seen
+pub mod Styling
+pub mod TextSeen
+pub mod StylingSteps
 pub mod Wash
 pub mod Law
 pub mod Writing

@@ -1,5 +1,5 @@
 -- The washed tokens of a message's tokens.
-use Rattle.std.specs.Prelude.{ℕ, Bool, true, false, not, ◌&&◌, nat_lt, if◌then◌else◌, List, [], ◌∷◌, ◌++◌, length}
+use Rattle.std.specs.Prelude.{ℕ, not, ◌&&◌, nat_lt, if◌then◌else◌, List, [], ◌∷◌, ◌++◌, length}
 use Rattle.html_syntax.specs.Token.{Attribute, Token}
 use Rattle.html_syntax.specs.Token.Token.{Start, End, Char, Comment, Doctype}
 use Rattle.html_syntax.specs.Tokenizer.{replace_null}
@@ -7,24 +7,24 @@ use Rattle.html_rules.specs.Tables.{Name, is_message_element, is_dropped_element
 use Rattle.html_rules.specs.Tokens.{replace_nulls}
 use Rattle.wash_attributes.specs.Given.{Given}
 use Rattle.wash_attributes.specs.Attributes.{washed_attributes}
+use Rattle.html_wash.specs.Styling.{Styling, no_styling, is_dropping, with_characters, with_following, settled, following_of, declared_for, counted}
 use Rattle.html_wash.specs.Closings.{After, none_closed, close_innermost, closed_by, lookups_of, ended}
 
--- The elements that are open, innermost first, and whether characters are dropped, since they are the text of a dropped element.
+-- The elements that are open, innermost first, and the rules that were read and what becomes of characters.
 pub record State : Type 0 where
   pub opened : List Name
-  pub dropping : Bool
+  pub styling : Styling
 
 abbrev pub start : State
-start = record { opened = []; dropping = false }
+start = record { opened = []; styling = no_styling }
 
 -- the state after tokens, and the washed tokens
 pub record Step : Type 0 where
   pub state : State
   pub tokens : List Token
 
--- characters are kept after a tag
-abbrev pub keep_characters : After → Step
-keep_characters a = record { state = record { opened = a.opened; dropping = false }; tokens = a.tokens }
+abbrev pub step_with : Styling → After → Step
+step_with styling a = record { state = record { opened = a.opened; styling = styling }; tokens = a.tokens }
 
 -- the number of elements that may be open
 abbrev pub open_limit : ℕ
@@ -37,13 +37,13 @@ open_element name tag closed =
     else (if nat_lt (length closed.opened) open_limit then record { opened = name ∷ closed.opened; tokens = closed.tokens ++ tag ∷ [] }
     else closed)
 
-abbrev pub washed_tag : Given → Name → List Attribute → Token
-washed_tag given name attributes = Start name (replace_nulls (washed_attributes given name attributes))
+abbrev pub washed_tag : Given → List ℕ → Name → List Attribute → Token
+washed_tag given declared name attributes = Start name (replace_nulls (washed_attributes given declared name attributes))
 
--- a start tag of a listed element
-unfoldable pub after_start : Given → List Name → Name → List Attribute → After
-after_start given opened name attributes =
-    open_element name (washed_tag given name attributes) (closed_by (lookups_of name) opened)
+-- a start tag of a listed element for which rules declare a style, which may be empty
+unfoldable pub after_start : Given → List ℕ → List Name → Name → List Attribute → After
+after_start given declared opened name attributes =
+    open_element name (washed_tag given declared name attributes) (closed_by (lookups_of name) opened)
 
 -- an end tag; that of a void or unlisted element does nothing
 unfoldable pub after_end : List Name → Name → After
@@ -51,22 +51,35 @@ after_end opened name =
     if is_message_element name && not (is_void name) then close_innermost (ended name opened) opened
     else none_closed opened
 
-abbrev pub step_at_start : Given → List Name → Name → List Attribute → Step
-step_at_start given opened name attributes =
-    if is_dropped_element name then record { state = record { opened = opened; dropping = true }; tokens = [] }
-    else (if is_message_element name then keep_characters (after_start given opened name attributes)
-    else keep_characters (none_closed opened))
+abbrev pub step_at_element : Given → State → Name → List Attribute → Step
+step_at_element given s name attributes =
+    let declared = declared_for s.styling name attributes in
+    step_with (counted declared s.styling) (after_start given declared s.opened name attributes)
+
+abbrev pub step_at_start : Given → State → Name → List Attribute → Step
+step_at_start given s name attributes =
+    if is_dropped_element name then step_with (with_following (following_of name attributes) s.styling) (none_closed s.opened)
+    else (if is_message_element name then step_at_element given s name attributes
+    else step_with s.styling (none_closed s.opened))
 
 abbrev pub step_at_char : State → ℕ → Step
-step_at_char s c = record { state = s; tokens = (if s.dropping then [] else Char (replace_null c) ∷ []) }
+step_at_char s c =
+    record {
+      state = record { opened = s.opened; styling = with_following (with_characters s.styling.following (c ∷ [])) s.styling };
+      tokens = (if is_dropping s.styling.following then [] else Char (replace_null c) ∷ []);
+    }
+
+-- the state before a token that isn't a character
+abbrev pub settled_state : State → State
+settled_state s = record { opened = s.opened; styling = settled s.styling }
 
 -- one token
 unfoldable pub wash_token : Given → State → Token → Step
-wash_token given s (Start name attributes) = step_at_start given s.opened name attributes
-wash_token given s (End name) = keep_characters (after_end s.opened name)
+wash_token given s (Start name attributes) = step_at_start given (settled_state s) name attributes
+wash_token given s (End name) = step_with (settled s.styling) (after_end s.opened name)
 wash_token given s (Char c) = step_at_char s c
-wash_token given s (Comment text) = keep_characters (none_closed s.opened)
-wash_token given s Doctype = keep_characters (none_closed s.opened)
+wash_token given s (Comment text) = step_with (settled s.styling) (none_closed s.opened)
+wash_token given s Doctype = step_with (settled s.styling) (none_closed s.opened)
 
 -- tokens from a state on, which others follow
 unfoldable pub wash_part : Given → State → List Token → Step

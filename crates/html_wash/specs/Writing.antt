@@ -4,7 +4,7 @@ use Rattle.html_syntax.specs.Token.{Token}
 use Rattle.html_syntax.specs.Tokenizer.{chars}
 use Rattle.html_rules.specs.Tables.{Name, is_void}
 use Rattle.page_writer.specs.Page.{takes_tags}
-use Rattle.page_writer.specs.Writer.{Page, with_all_tokens, with_text}
+use Rattle.page_writer.specs.Writer.{Page, with_all_tokens}
 use Rattle.html_wash.specs.Closings.{After}
 use Rattle.html_wash.specs.Wash.{State, Step}
 use Rattle.html_wash.specs.Law.{are_openable}
@@ -40,6 +40,6 @@ pub record Took (step : Step) (outer : List Name) (old new : Page) (state : Stat
   pub after : state ≡ step.state
   pub inside : IsInside state.opened new.opened outer
 
--- if the tokens are characters, these were appended
-abbrev pub WroteCharacters : List Token → Page → Page → Type 0
-WroteCharacters tokens old new = (cs : List ℕ) → tokens ≡ chars cs → new ≡ with_text old cs
+-- if the tokens are characters, these pass
+abbrev pub IfCharacters : List Token → (List ℕ → Type 0) → Type 0
+IfCharacters tokens P = (cs : List ℕ) → tokens ≡ chars cs → P cs

@@ -8,6 +8,8 @@ mod laws;
 mod lookup;
 mod message;
 mod open_elements;
+mod runs;
+mod styling;
 mod tags;
 mod washer;
 

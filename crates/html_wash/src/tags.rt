@@ -1,5 +1,5 @@
 //! Writes what tags close and open.
-ghost use Rattle.std.specs.Prelude.{◌≡◌, ◌≤◌, ◌||◌, nat_lt, true, false, length, OnOk};
+ghost use Rattle.std.specs.Prelude.{◌≡◌, ◌≤◌, ◌||◌, nat_lt, true, false, chars, length, OnOk};
 ghost use Rattle.html_syntax.specs.Token.Token.{Start};
 ghost use Rattle.html_rules.specs.Tokens.{replace_nulls};
 ghost use Rattle.page_writer.specs.Page.{are_attributes, are_distinct};
@@ -102,11 +102,12 @@ fn has_room(element: Element, count: usize) -> bool
     element.is_void() || count < OPEN_LIMIT
 }
 
-/// Writes the start tag of an element after what it closes.
+/// Writes the start tag of an element after what it closes. `declared` is the style that rules declare for it.
 pub fn start_tag(
     alloc: Global,
     element: Element,
     tag: &StartTag,
+    declared: &str,
     references: &References,
     place: &Place,
     images: bool,
@@ -114,12 +115,20 @@ pub fn start_tag(
     out: &mut PageOut,
 ) -> Result<(), Memory>
     requires { IsInside opened.old out.old.opened (outside opened.old out.old.opened) }
-    ensures { OnOk result (Wrote (after_start (given_of references.now place.now images) opened.old (name_of element) tag.now.attributes) (outside opened.old out.old.opened) out.old out.new opened.new) }
+    ensures { OnOk result (Wrote (after_start (given_of references.now place.now images) (chars declared.now) opened.old (name_of element) tag.now.attributes) (outside opened.old out.old.opened) out.old out.new opened.new) }
 {
     close_by(element, opened, out)?;
     if !has_room(element, opened.len()) {
         return Ok(());
     }
-    let attributes = wash_attributes(alloc, element.name(), tag, references, place, images)?;
+    let attributes = wash_attributes(
+        alloc,
+        element.name(),
+        tag,
+        declared,
+        references,
+        place,
+        images,
+    )?;
     open(alloc, element, &attributes, opened, out)
 }

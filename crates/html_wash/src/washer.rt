@@ -1,30 +1,33 @@
 //! The washer: washes a message token by token as it is scanned.
 ghost use Rattle.std.specs.Prelude.{◌≡◌, OnOk};
-ghost use Rattle.html_syntax.specs.Held.{meaning};
 ghost use Rattle.html_tokens.specs.Scanned.{span_tokens, IsSpan};
 ghost use Rattle.page_writer.specs.Writer.{with_all_tokens};
 ghost use Rattle.wash_attributes.specs.Addresses.{given_of};
-ghost use Rattle.html_wash.specs.Wash.{start, step_at_start, wash_part, close_all};
-ghost use Rattle.html_wash.specs.Writing.{outside, IsInside, Took, WroteCharacters};
+ghost use Rattle.html_wash.specs.Elements.{name_of};
+ghost use Rattle.html_wash.specs.Wash.{start, settled_state, step_at_element, step_at_start, wash_part, close_all};
+ghost use Rattle.html_wash.specs.Writing.{outside, IsInside, Took};
 
 use crate::Memory;
-use crate::element::{element_named, is_dropped};
+use crate::element::{Element, element_named, is_dropped};
 use crate::open_elements::OpenElements;
+use crate::runs::write_run;
+use crate::styling::Styling;
 use crate::tags::{close, end_tag, start_tag};
 use cid_parts::References;
-use html_tokens::{Lexeme, Part, Scanner, Span, StartTag, Token};
+use html_tokens::{Part, Scanner, Span, StartTag};
 use page_writer::PageOut;
 use std::alloc::Global;
 use std::marker::Model;
 use wash_attributes::Place;
 
-/// A washer between two tokens, seen as its open elements and whether it drops characters, and whether it shows remote pictures.
+/// A washer between two tokens, seen as its open elements, the rules that it read, what becomes of characters, and whether it shows
+/// remote pictures.
 ///
 /// The page that it writes into has its elements innermost open. It has to be given up after an error.
 #[derive(Drop)]
 pub struct Washer {
     opened: OpenElements,
-    dropping: bool,
+    styling: Styling,
     images: bool,
 }
 
@@ -33,7 +36,7 @@ impl Model for Washer {
 
     ghost Value = { WasherState };
 
-    ghost view = { λ w. record { state = record { opened = w.opened; dropping = w.dropping }; images = w.images } };
+    ghost view = { λ w. record { state = record { opened = w.opened; styling = w.styling }; images = w.images } };
 }
 
 impl Washer {
@@ -43,7 +46,7 @@ impl Washer {
     {
         Washer {
             opened: OpenElements::new(alloc),
-            dropping: false,
+            styling: Styling::new(alloc),
             images,
         }
     }
@@ -69,23 +72,17 @@ impl Washer {
                 self.take_start_tag(alloc, &tag, references, place, out)
             }
             Part::EndTag => {
-                self.dropping = false;
+                self.styling.settle(alloc)?;
                 end_tag(&scanner.end_tag(span), &mut self.opened, out)
             }
             Part::Run(_) => {
-                if self.dropping {
-                    return Ok(());
+                if self.styling.drops_text() {
+                    return self.styling.take_run(alloc, scanner, span);
                 }
                 write_run(alloc, scanner, span, out)
             }
-            Part::Comment(_, _) => {
-                self.dropping = false;
-                Ok(())
-            }
-            Part::Doctype => {
-                self.dropping = false;
-                Ok(())
-            }
+            Part::Comment(_, _) => self.styling.settle(alloc),
+            Part::Doctype => self.styling.settle(alloc),
         }
     }
 
@@ -99,27 +96,46 @@ impl Washer {
         out: &mut PageOut,
     ) -> Result<(), Memory>
         requires { IsInside self.old.state.opened out.old.opened (outside self.old.state.opened out.old.opened) }
-        ensures took { OnOk result (Took (step_at_start (given_of references.now place.now self.old.images) self.old.state.opened tag.now.name tag.now.attributes) (outside self.old.state.opened out.old.opened) out.old out.new self.new.state) }
+        ensures took { OnOk result (Took (step_at_start (given_of references.now place.now self.old.images) (settled_state self.old.state) tag.now.name tag.now.attributes) (outside self.old.state.opened out.old.opened) out.old out.new self.new.state) }
         ensures images { OnOk result (self.new.images ≡ self.old.images) }
     {
+        self.styling.settle(alloc)?;
         let name = tag.name();
-        self.dropping = is_dropped(&name);
-        if self.dropping {
-            return Ok(());
+        if is_dropped(&name) {
+            return self.styling.drop_text(alloc, tag);
         }
         match element_named(&name) {
             None => Ok(()),
-            Some(element) => start_tag(
-                alloc,
-                element,
-                tag,
-                references,
-                place,
-                self.images,
-                &mut self.opened,
-                out,
-            ),
+            Some(element) => self.take_element(alloc, element, tag, references, place, out),
         }
+    }
+
+    /// Writes what the start tag of an element is washed to.
+    fn take_element(
+        &mut self,
+        alloc: Global,
+        element: Element,
+        tag: &StartTag,
+        references: &References,
+        place: &Place,
+        out: &mut PageOut,
+    ) -> Result<(), Memory>
+        requires { IsInside self.old.state.opened out.old.opened (outside self.old.state.opened out.old.opened) }
+        ensures took { OnOk result (Took (step_at_element (given_of references.now place.now self.old.images) self.old.state (name_of element) tag.now.attributes) (outside self.old.state.opened out.old.opened) out.old out.new self.new.state) }
+        ensures images { OnOk result (self.new.images ≡ self.old.images) }
+    {
+        let declared = self.styling.declared(alloc, element, tag)?;
+        start_tag(
+            alloc,
+            element,
+            tag,
+            declared.as_str(),
+            references,
+            place,
+            self.images,
+            &mut self.opened,
+            out,
+        )
     }
 
     /// Closes all elements that are open.
@@ -130,30 +146,9 @@ impl Washer {
     {
         let Washer {
             mut opened,
-            dropping: _,
+            styling: _,
             images: _,
         } = self;
         close(opened.len(), &mut opened, out)
-    }
-}
-
-/// Writes the characters of a run.
-fn write_run(alloc: Global, scanner: &Scanner, span: &Span, out: &mut PageOut) -> Result<(), Memory>
-    requires { IsSpan scanner.now.text span.now }
-    ensures { OnOk result (WroteCharacters (span_tokens scanner.now.text span.now) out.old out.new) }
-{
-    match scanner.piece(alloc, span)? {
-        Lexeme::Lent(text) => out.chars(text),
-        Lexeme::Made(token) => write_characters(&token, out),
-    }
-}
-
-/// Writes the characters of a token.
-fn write_characters(token: &Token, out: &mut PageOut) -> Result<(), Memory>
-    ensures { OnOk result (WroteCharacters (meaning token.now) out.old out.new) }
-{
-    match token {
-        Token::Chars(text) => out.chars(text.as_str()),
-        _ => Ok(()),
     }
 }

@@ -1,0 +1,8 @@
+use Rattle.std.proofs.Common.{refl}
+use Rattle.std.proofs.lemmas.Str.Ascii.{trim_ascii_is}
+use Rattle.style_wash.specs.Characters.{trimmed, without_front}
+use Rattle.html_wash.proofs.styling.trim.Goals as goal
+
+pub returns : goal.returns
+unfolding trimmed
+returns c = trim_ascii_is c.args.text.now c.trim_ascii.result.now (without_front c.args.text.now) refl c.trim_ascii.ensures.value
