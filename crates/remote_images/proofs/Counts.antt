@@ -6,11 +6,12 @@ use Rattle.html_syntax.specs.Tokenizer.{same, has_name}
 use Rattle.html_tokens.specs.Attributes.{first_of_each}
 use Rattle.html_rules.specs.Tables.{Name, common_attributes, attribute_rows, is_listed_attribute, kind_of, value_kind_rows}
 use Rattle.html_rules.specs.Tokens.{replace_nulls}
+use Rattle.html_rules.specs.Values.{is_empty}
 use Rattle.html_rules.proofs.Facts.{and_true, same-true}
 use Rattle.wash_attributes.specs.Given.{Target, Given}
 use Rattle.wash_attributes.specs.Given.Target.{Part, Remote, Link, Nothing}
 use Rattle.wash_attributes.specs.Values.{picture_address, written_value}
-use Rattle.wash_attributes.specs.Attributes.{attribute, attribute_with, kept_attribute, kept_attributes, link_protection, washed_attributes}
+use Rattle.wash_attributes.specs.Attributes.{attribute, attribute_with, kept_attribute, kept_attributes, join_styles, with_declared, with_style, link_protection, washed_attributes}
 use Rattle.remote_images.proofs.Sources.{washing, is_remote_target, is_remote_source, alike_unless_remote}
 
 -- the number of attributes that are named `src`
@@ -112,11 +113,17 @@ unfolding src_count
 count_replaced [] = refl
 count_replaced (a ∷ xs) = rw (count_replaced xs) refl
 
-washed_count : (given : Given) (element : Name) (xs : List Attribute) → src_count (replace_nulls (washed_attributes given element xs)) ≡ src_count (filter_map (kept_attribute given element) (first_of_each xs))
+count_styled : (declared : List ℕ) (xs : List Attribute) (b : Bool) → src_count (xs ++ (if b then [] else attribute (codes "style") declared ∷ [])) ≡ src_count xs
+unfolding src_count
+count_styled declared xs true = count-append xs [] ∙ omega arith
+count_styled declared xs false = count-append xs (attribute (codes "style") declared ∷ []) ∙ omega arith
+
+washed_count : (given : Given) (declared : List ℕ) (element : Name) (xs : List Attribute) → src_count (replace_nulls (washed_attributes given declared element xs)) ≡ src_count (filter_map (kept_attribute (with_declared declared given) element) (first_of_each xs))
 unfolding washed_attributes kept_attributes
-washed_count given element xs =
-    let kept = filter_map (kept_attribute given element) (first_of_each xs) in
-    count_replaced (washed_attributes given element xs) ∙ count_protected kept (has_name (codes "href") kept)
+washed_count given declared element xs =
+    let own = filter_map (kept_attribute (with_declared declared given) element) (first_of_each xs) in
+    let kept = with_style declared own in
+    count_replaced (washed_attributes given declared element xs) ∙ count_protected kept (has_name (codes "href") kept) ∙ count_styled declared own (is_empty declared || has_name (codes "style") own)
 
 none_counted : (to : List ℕ → Target) (xs : List Attribute) → remote_count to xs ≡ 0 → list_any (is_remote_source to) xs ≡ false
 unfolding remote_count
@@ -131,9 +138,11 @@ none_more : (a b : ℕ) → b ≡ a + b → a ≡ 0
 none_more a b h = omega arith
 
 -- an image whose attributes are washed alike has no remote source
-pub no_remote_source : (to : List ℕ → Target) (style : List ℕ → List ℕ) (xs : List Attribute) → replace_nulls (washed_attributes (washing to style true) (codes "img") xs) ≡ replace_nulls (washed_attributes (washing to style false) (codes "img") xs) → list_any (is_remote_source to) (first_of_each xs) ≡ false
-no_remote_source to style xs h =
+pub no_remote_source : (to : List ℕ → Target) (style : List ℕ → List ℕ) (declared : List ℕ) (xs : List Attribute) → replace_nulls (washed_attributes (washing to style true) declared (codes "img") xs) ≡ replace_nulls (washed_attributes (washing to style false) declared (codes "img") xs) → list_any (is_remote_source to) (first_of_each xs) ≡ false
+unfolding with_declared
+no_remote_source to style declared xs h =
     let ys = first_of_each xs in
-    let same_count : src_count (kept_in_image to style true ys) ≡ src_count (kept_in_image to style false ys) =
-    sym (washed_count (washing to style true) (codes "img") xs) ∙ ap src_count h ∙ washed_count (washing to style false) (codes "img") xs in
-    none_counted to ys (none_more (remote_count to ys) (src_count (kept_in_image to style false ys)) (sym same_count ∙ kept_counts to style ys))
+    let joined : List ℕ → List ℕ = λ text. join_styles declared (style text) in
+    let same_count : src_count (kept_in_image to joined true ys) ≡ src_count (kept_in_image to joined false ys) =
+    sym (washed_count (washing to style true) declared (codes "img") xs) ∙ ap src_count h ∙ washed_count (washing to style false) declared (codes "img") xs in
+    none_counted to ys (none_more (remote_count to ys) (src_count (kept_in_image to joined false ys)) (sym same_count ∙ kept_counts to joined ys))

@@ -16,7 +16,8 @@ use Rattle.wash_attributes.specs.declared.place.Place.{Place}
 use Rattle.wash_attributes.specs.Addresses.{target_of, given_of}
 use Rattle.wash_attributes.specs.Given.{Target}
 use Rattle.html_wash.specs.Wash.{State, wash_from}
-use Rattle.remote_images.specs.Remote.{is_remote, first_value, refers_to_web, is_remote_image, has_remote_images}
+use Rattle.wash_attributes.specs.FirstValues.{first_value}
+use Rattle.remote_images.specs.Remote.{is_remote, refers_to_web, is_remote_image, has_remote_images}
 use Rattle.remote_images.specs.Decides.{RemoteImagesDecide}
 use Rattle.remote_images.proofs.Sources.{is_remote_target}
 use Rattle.remote_images.proofs.Washes.{is_remote_img, washed_same, washed_otherwise}
@@ -60,23 +61,6 @@ first_source q (a ∷ xs) =
           subst (λ (name : Name). list_any (is_source_that q) (filter (λ b. not (same name b.name)) later) ≡ false) (same-true (codes "src") a.name e) (no_source_left q later) in
           rw none (or_none (q a.value))
       | false ↦ λ e. sources_left q a.name later e ∙ first_source q xs
-    ] refl
-
-first_left : (name : Name) (xs : List Attribute) → same (codes "src") name ≡ false → first_value (codes "src") (filter (λ b. not (same name b.name)) xs) ≡ first_value (codes "src") xs
-first_left name [] h = refl
-first_left name (a ∷ xs) h =
-    elim (same name a.name) as (λ (t : Bool). same name a.name ≡ t → first_value (codes "src") (cond (not t) (a ∷ filter (λ b. not (same name b.name)) xs) (filter (λ b. not (same name b.name)) xs)) ≡ first_value (codes "src") (a ∷ xs)) [
-      | true ↦ λ e. let other : same (codes "src") a.name ≡ false = ap (same (codes "src")) (sym (same-true name a.name e)) ∙ h in rw other (first_left name xs h)
-      | false ↦ λ e. ap (λ (rest : Option (List ℕ)). if same (codes "src") a.name then Some a.value else rest) (first_left name xs h)
-    ] refl
-
--- the attributes of a token have its tag's first `src`
-pub first_of_first : (xs : List Attribute) → first_value (codes "src") (first_of_each xs) ≡ first_value (codes "src") xs
-first_of_first [] = refl
-first_of_first (a ∷ xs) =
-    elim (same (codes "src") a.name) as (λ (t : Bool). same (codes "src") a.name ≡ t → (if t then Some a.value else first_value (codes "src") (filter (λ b. not (same a.name b.name)) (first_of_each xs))) ≡ (if t then Some a.value else first_value (codes "src") xs)) [
-      | true ↦ λ e. refl
-      | false ↦ λ e. first_left a.name (first_of_each xs) e ∙ first_of_first xs
     ] refl
 
 -- ---- the law

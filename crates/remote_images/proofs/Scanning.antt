@@ -16,7 +16,8 @@ use Rattle.wash_attributes.specs.declared.place.Place.{Place}
 use Rattle.html_wash.specs.Wash.{start, wash}
 use Rattle.remote_images.specs.Remote.{is_remote, refers_to_web, is_remote_image, has_remote_images}
 use Rattle.remote_images.specs.Decides.{ImagesChange}
-use Rattle.remote_images.proofs.First.{first_of_first, decides}
+use Rattle.wash_attributes.proofs.FirstValues.{first_of_first}
+use Rattle.remote_images.proofs.First.{decides}
 
 pub not_remote : (to : Ref) → ((text : List ℕ) → to ≡ ref.Remote text → ⊥) → is_remote to ≡ false
 not_remote (ref.Part section) other = refl
@@ -33,7 +34,7 @@ or_none false = refl
 pub tag_has : (references : ReferencesValue) (name : List ℕ) (xs : List Attribute) (ts : List Token) → ts ≡ Start name (first_of_each xs) ∷ [] → is_remote_image references (Start name xs) ≡ has_remote_images references ts
 unfolding has_remote_images is_remote_image
 tag_has references name xs ts is =
-    ap (λ value. same (codes "img") name && refers_to_web references value) (sym (first_of_first xs))
+    ap (λ value. same (codes "img") name && refers_to_web references value) (sym (first_of_first (codes "src") xs))
     ∙ or_none (is_remote_image references (Start name (first_of_each xs)))
     ∙ ap (has_remote_images references) (sym is)
 

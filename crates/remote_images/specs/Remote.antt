@@ -1,10 +1,10 @@
 -- Pictures of the web in the HTML of a message.
-use Rattle.std.specs.Prelude.{ℕ, Bool, true, false, ◌&&◌, if◌then◌else◌, List, [], ◌∷◌, codes, encode_utf8_all, Option, Some, None}
+use Rattle.std.specs.Prelude.{ℕ, Bool, true, false, ◌&&◌, List, codes, encode_utf8_all, Option, Some, None}
 use Rattle.std.specs.List.{list_any}
-use Rattle.html_syntax.specs.Token.{Attribute, Token}
+use Rattle.html_syntax.specs.Token.{Token}
 use Rattle.html_syntax.specs.Token.Token.{Start, End, Char, Comment, Doctype}
 use Rattle.html_syntax.specs.Tokenizer.{same}
-use Rattle.html_rules.specs.Tables.{Name}
+use Rattle.wash_attributes.specs.FirstValues.{first_value}
 use Rattle.cid_parts.specs.declared.refs.Ref.{Ref}
 use Rattle.cid_parts.specs.declared.refs.Ref.TheVariants.{Part, Remote, Link, Nothing}
 use Rattle.cid_parts.specs.Located.{ReferencesValue}
@@ -15,11 +15,6 @@ is_remote (Part section) = false
 is_remote (Remote text) = true
 is_remote (Link text) = false
 is_remote Nothing = false
-
--- the value of the first attribute of the name
-abbrev pub first_value : Name → List Attribute → Option (List ℕ)
-first_value name [] = None
-first_value name (a ∷ attributes) = if same name a.name then Some a.value else first_value name attributes
 
 -- there is an address, and it is one of the web
 abbrev pub refers_to_web : ReferencesValue → Option (List ℕ) → Bool

@@ -1,5 +1,5 @@
 //! Looks for a picture of the web.
-ghost use Rattle.std.specs.Prelude.{◌≡◌, ◌↔◌, chars, codes, IfOk, IsTrue, MatchOption, None, Some};
+ghost use Rattle.std.specs.Prelude.{◌≡◌, ◌↔◌, chars, IfOk, IsTrue, Some};
 ghost use Rattle.std.specs.Option.{option_copied};
 ghost use Rattle.html_syntax.specs.Token.Token.{Start};
 ghost use Rattle.html_syntax.specs.Tokenizer.{tokens};
@@ -7,7 +7,7 @@ ghost use Rattle.html_tokens.specs.Scanned.{span_tokens, IsSpan};
 ghost use Rattle.cid_parts.specs.Located.{references_of};
 ghost use Rattle.cid_parts.specs.Refer.{refer};
 ghost use Rattle.wash_attributes.specs.declared.place.Place.{Place};
-ghost use Rattle.remote_images.specs.Remote.{is_remote, first_value, refers_to_web, is_remote_image, has_remote_images};
+ghost use Rattle.remote_images.specs.Remote.{is_remote, refers_to_web, is_remote_image, has_remote_images};
 ghost use Rattle.remote_images.specs.Decides.{ImagesChange};
 
 use crate::Memory;
@@ -15,6 +15,7 @@ use cid_parts::{Ref, References};
 use html_tokens::{Part, Scanner, Span, StartTag, WrittenAttribute};
 use mime_tree::Tree;
 use std::alloc::Global;
+use wash_attributes::first_attribute;
 
 /// Returns whether the HTML of a message has a picture of the web.
 ///
@@ -77,23 +78,10 @@ fn is_remote_image(
     if !tag.name().reads_as("img") {
         return Ok(false);
     }
-    match source(tag) {
+    match first_attribute(tag, "src") {
         Some(attribute) => refers_to_web(alloc, &attribute, references),
         None => Ok(false),
     }
-}
-
-/// The first `src` of a tag.
-fn source<'t>(tag: &StartTag<'t>) -> Option<WrittenAttribute<'t>>
-    ensures { MatchOption result (first_value (codes "src") tag.now.attributes ≡ None) (λ a. first_value (codes "src") tag.now.attributes ≡ Some a.value) }
-{
-    let mut reader = tag.attributes();
-    while let Some(attribute) = reader.next() {
-        if attribute.name().reads_as("src") {
-            return Some(attribute);
-        }
-    }
-    None
 }
 
 /// Whether the value of an attribute is an address of the web.
