@@ -28,8 +28,11 @@ use Rattle.mail_pages.specs.Mail.{plain_text, paragraph, mail_of, washed_html, f
 use Rattle.mail_pages.specs.ShowPage.{shown_of, page_foot, page_of}
 use Rattle.html_syntax.specs.References.{reference}
 use Rattle.html_syntax.specs.Tokenizer.{look, look_again, step, tokens_at_end, read, normalize_newlines, tokens}
-use Rattle.wash_attributes.specs.Attributes.{kept_attribute, kept_attributes, link_protection, washed_attributes}
+use Rattle.wash_attributes.specs.Attributes.{kept_attribute, kept_attributes, with_declared, link_protection, washed_attributes}
 use Rattle.html_wash.specs.Closings.{closing_rows, lookups_of, looked_up, closed_by, blocks, ended}
+use Rattle.style_rules.specs.Cascade.{declared, entries_of, last_of_each}
+use Rattle.wash_attributes.specs.FirstValues.{attribute_text}
+use Rattle.html_wash.specs.Styling.{settled, following_of, declared_for, counted}
 use Rattle.html_wash.specs.Wash.{after_start, after_end, wash_token, wash_part, wash_from, wash}
 use Rattle.flowed_text.specs.declared.Para.{Para}
 use Rattle.flowed_text.specs.Lines.{lines}
@@ -41,7 +44,7 @@ use Rattle.mail_pages.specs.Flowed.{paras_after, flowed_paras}
 
 -- what acts goes, what is open is closed
 html_page : spell (page_of by_itself (codes "Subject: t\nContent-Type: text/html\n\n<p onclick=x>a<script>b</script><p>c<b><!-- d -->&lt;e</div>") None false) ≡ codes "<!DOCTYPE html>\n<html lang=\"en\"><head><meta charset=\"utf-8\"><title>t</title><link rel=\"stylesheet\" href=\"/site.css\"></head>\n<body><h1>t</h1>\n<table class=\"head\"></table>\n<div class=\"mail\"><p>a</p><p>c<b>&lt;e</b></p></div>\n<ul class=\"parts\"><li><a href=\"/part/0/0/1?f=\">1</a> text/html 60</li></ul>\n</body></html>\n"
-unfolding digits decoded_of with_words_decoded items_from joined word_at word_text quoted_bytes line_bytes without_blanks unescaped page_of page_foot shown_of page_head page_start heading field_table images_offer place_at folder_query message_path byte_serialize part_list part_link part_words plain_text paragraph mail_of with_line_feeds spell is_void message_void_elements frame_void_elements best_of leaf_to_show tree_of parts_of message_of tree_after_steps open_first opens_beside children_of children_from node_at content_of places is_closing_line is_delimiter_line header_of utf8_lossy utf8_valid_len is_utf8 chars encode tokens normalize_newlines read step look_again look tokens_at_end reference wash wash_from wash_part wash_token after_start after_end closed_by looked_up lookups_of closing_rows ended blocks is_listed_attribute common_attributes attribute_rows is_message_element message_elements is_dropped_element dropped_elements washed_attributes kept_attribute kept_attributes link_protection washed_html
+unfolding digits decoded_of with_words_decoded items_from joined word_at word_text quoted_bytes line_bytes without_blanks unescaped page_of page_foot shown_of page_head page_start heading field_table images_offer place_at folder_query message_path byte_serialize part_list part_link part_words plain_text paragraph mail_of with_line_feeds spell is_void message_void_elements frame_void_elements best_of leaf_to_show tree_of parts_of message_of tree_after_steps open_first opens_beside children_of children_from node_at content_of places is_closing_line is_delimiter_line header_of utf8_lossy utf8_valid_len is_utf8 chars encode tokens normalize_newlines read step look_again look tokens_at_end reference wash wash_from wash_part wash_token after_start after_end settled following_of declared_for counted attribute_text declared entries_of last_of_each closed_by looked_up lookups_of closing_rows ended blocks is_listed_attribute common_attributes attribute_rows is_message_element message_elements is_dropped_element dropped_elements washed_attributes kept_attribute kept_attributes link_protection with_declared washed_html
 html_page = refl
 
 -- ---- flowed text

@@ -259,7 +259,7 @@ flowed_part_is images own del_sp (Some p) = flowed_message images own (paras_of 
 
 -- what is washed is a message's, with the parts that addresses may name as its own
 washed : (place : Place) (parts : List PartValue) (images : Bool) (p : PartValue) → IsWashed (given_of (references_in parts p) place images) (is_part_address place (located_parts parts)) start (tokens (chars (decoded_text p))) (wash_from (given_of (references_in parts p) place images) start (tokens (chars (decoded_text p))))
-washed place parts images p = washed_is_allowed (given_of (references_in parts p) place images) (is_part_address place (located_parts parts)) start (tokens (chars (decoded_text p))) (references_sound (references_in parts p) place images) refl
+washed place parts images p = washed_is_allowed (given_of (references_in parts p) place images) (is_part_address place (located_parts parts)) start (tokens (chars (decoded_text p))) (references_sound (references_in parts p) place images) refl tt
 
 html_part_is : (place : Place) (parts : List PartValue) (images : Bool) (p : Option PartValue) → list_all (is_message_token images (is_part_address place (located_parts parts))) (html_part place parts images p) ≡ true
 unfolding washed_html wash given_of
