@@ -102,9 +102,9 @@ fn washes_html(rt: HostRuntime) -> Result<(), Fail> {
 fn shows_pictures(rt: HostRuntime) -> Result<(), Fail> {
     let alloc = rt.alloc();
     let unasked =
-        "<table width=\"600\"><tr><td><img src=\"/part/0/0/2.2?f=\" width=\"600\" height=\"80\"><p style=\"color: #333; margin: 0 0 10px\">Caf\u{E9}</p><img><img src=\"/part/0/0/2.3?f=\"></td></tr></table>";
+        "<table width=\"600\"><tr><td><img src=\"/part/0/0/2.2?f=\" width=\"600\" height=\"80\"><p style=\"color: red; color: #333; margin: 0 0 10px\">Caf\u{E9}</p><img><img src=\"/part/0/0/2.3?f=\"></td></tr></table>";
     let asked =
-        "<table width=\"600\"><tr><td><img src=\"/part/0/0/2.2?f=\" width=\"600\" height=\"80\"><p style=\"color: #333; margin: 0 0 10px\">Caf\u{E9}</p><img src=\"http://t.example/o\"><img src=\"/part/0/0/2.3?f=\"></td></tr></table>";
+        "<table width=\"600\"><tr><td><img src=\"/part/0/0/2.2?f=\" width=\"600\" height=\"80\"><p style=\"color: red; color: #333; margin: 0 0 10px\">Caf\u{E9}</p><img src=\"http://t.example/o\"><img src=\"/part/0/0/2.3?f=\"></td></tr></table>";
     let pictures = "<img><img src=\"/part/0/0/2.2?f=\">";
     for (words, page, want) in [
         (["show"].as_slice(), NEWSLETTER_PAGE, unasked),

@@ -270,7 +270,7 @@ fn shows_parts(rt: HostRuntime) -> Result<(), Fail> {
             NEWSLETTER,
             "Caf\u{E9} week",
             "<tr><th>From</th><td>&quot;College News&quot; &lt;news@c.example&gt;</td></tr><tr><th>To</th><td>ann@c.example</td></tr><tr><th>Date</th><td>Mon, 5 Jan 2026 09:00:00 +0000</td></tr>",
-            "<table width=\"600\"><tr><td><img src=\"/part/0/0/2.2?f=\" width=\"600\" height=\"80\"><p style=\"color: #333; margin: 0 0 10px\">Caf\u{E9}</p><img><img src=\"/part/0/0/2.3?f=\"></td></tr></table>",
+            "<table width=\"600\"><tr><td><img src=\"/part/0/0/2.2?f=\" width=\"600\" height=\"80\"><p style=\"color: red; color: #333; margin: 0 0 10px\">Caf\u{E9}</p><img><img src=\"/part/0/0/2.3?f=\"></td></tr></table>",
             "<li><a href=\"/part/0/0/1?f=\">1</a> text/plain 9</li><li><a href=\"/part/0/0/2.1?f=\">2.1</a> text/html 307</li><li><a href=\"/part/0/0/2.2?f=\">2.2</a> image/png top.png 8</li><li><a href=\"/part/0/0/2.3?f=\">2.3</a> image/gif 8</li>",
         ),
         (
@@ -278,7 +278,7 @@ fn shows_parts(rt: HostRuntime) -> Result<(), Fail> {
             NEWSLETTER,
             "Caf\u{E9} week",
             "<tr><th>From</th><td>&quot;College News&quot; &lt;news@c.example&gt;</td></tr><tr><th>To</th><td>ann@c.example</td></tr><tr><th>Date</th><td>Mon, 5 Jan 2026 09:00:00 +0000</td></tr>",
-            "<table width=\"600\"><tr><td><img src=\"/part/0/0/2.2?f=\" width=\"600\" height=\"80\"><p style=\"color: #333; margin: 0 0 10px\">Caf\u{E9}</p><img src=\"http://t.example/o\"><img src=\"/part/0/0/2.3?f=\"></td></tr></table>",
+            "<table width=\"600\"><tr><td><img src=\"/part/0/0/2.2?f=\" width=\"600\" height=\"80\"><p style=\"color: red; color: #333; margin: 0 0 10px\">Caf\u{E9}</p><img src=\"http://t.example/o\"><img src=\"/part/0/0/2.3?f=\"></td></tr></table>",
             "<li><a href=\"/part/0/0/1?f=\">1</a> text/plain 9</li><li><a href=\"/part/0/0/2.1?f=\">2.1</a> text/html 307</li><li><a href=\"/part/0/0/2.2?f=\">2.2</a> image/png top.png 8</li><li><a href=\"/part/0/0/2.3?f=\">2.3</a> image/gif 8</li>",
         ),
         (
