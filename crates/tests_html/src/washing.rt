@@ -71,6 +71,26 @@ static ASKED: [&str; 4] = [
     r#"<img src="http://e.example/a/b.png">"#,
 ];
 
+/// Texts with style elements, and what they are washed to.
+static SHEETS: [&str; 16] = [
+    r#"<style>P.x{color:red} .x{color:blue;margin:0} p{color:green} p b{color:red}</style><p class="y x">t</p>"#,
+    r#"<p style="margin: 0; color: red">t</p>"#,
+    "<p>a</p><style>@media x{p{color:red}}p{color:url(x)}p{width:1px}</style><p>b</p>",
+    r#"<p>a</p><p style="width: 1px">b</p>"#,
+    r#"<html><head><style>p{color:red}</style></head><body><p class="x" style="color:#333;margin:0 0 10px">Caf&eacute;</p>"#,
+    "<p style=\"color: red; color: #333; margin: 0 0 10px\">Caf\u{E9}</p>",
+    "<style>p{\r\ncolor:\rred}\0</style><p title=a>b",
+    r#"<p title="a" style="color: red">b</p>"#,
+    "<style media=print>p{color:red}</style><style media=' SCREEN'>p{margin:0}</style><p>a<p style=x dir=ltr>b",
+    r#"<p style="margin: 0">a</p><p style="margin: 0" dir="ltr">b</p>"#,
+    "<style>a{color:red}</style><a href=http://e.example/ class=&quot;>b",
+    r#"<a href="http://e.example/" style="color: red" rel="noopener noreferrer" target="_blank">b</a>"#,
+    "<style>.a\u{E9}{color:red}.b{font-family:'\u{E9}';margin:0}</style><i class='\u{E9} b'>c",
+    r#"<i style="margin: 0">c</i>"#,
+    "a<style>p{color:red}<p>b",
+    "a",
+];
+
 #[tactic(auto, unfolding(page_writer::specs::Writing::literals))]
 fn open_div(alloc: Global, out: &mut PageOut) -> Result<(), Memory>
     requires { out.old.opened ≡ [] }
@@ -135,4 +155,9 @@ fn washes_whole_messages(rt: HostRuntime) -> Result<(), Fail> {
 fn writes_remote_pictures_that_are_asked_for(rt: HostRuntime) -> Result<(), Fail> {
     assert_washed(&rt, rt.alloc(), &UNASKED, false)?;
     assert_washed(&rt, rt.alloc(), &ASKED, true)
+}
+
+#[test]
+fn acts_on_style_elements(rt: HostRuntime) -> Result<(), Fail> {
+    assert_washed(&rt, rt.alloc(), &SHEETS, false)
 }
