@@ -1,7 +1,7 @@
 //! Calls of the link and of the keeper that fail once, and want of memory.
 use crate::asks::{call, calls};
 use crate::server::Server;
-use crate::talks::{CALLS, LISTED};
+use crate::talks::{CALLS, call_of, listed};
 use account_core::Account;
 use mail_io::Memory;
 use record_io::MemoryKeeper;
@@ -21,7 +21,8 @@ fn account_of(
 /// Makes the calls of `CALLS`, each again if it isn't answered as it is meant. Returns what was answered then.
 fn retried(alloc: Global, account: &mut Account<Server, MemoryKeeper>) -> Result<String, Memory> {
     let mut failures = String::new(alloc);
-    for (words, want) in CALLS {
+    for entry in CALLS.split(" || ") {
+        let (words, want) = call_of(entry);
         let first = call(alloc, account, words)?;
         if first.as_str() != want {
             failures.push_str(first.as_str())?;
@@ -70,27 +71,31 @@ const SAID: &str = concat!(
 /// The server renews the folder while the link is down.
 const RENEWED: &str = "SELECT \"INBOX\" (>* OK [UIDVALIDITY 9] x^* OK [HIGHESTMODSEQ 20] x^OK x";
 
+/// What is answered to calls over a server.
+fn answered(alloc: Global, server: Server, words: &str) -> Result<String, Memory> {
+    let mut account = account_of(alloc, server, 0)?;
+    calls(alloc, &mut account, words)
+}
+
 #[test]
 fn catches_up_after_a_fault(rt: HostRuntime) -> Result<(), Fail> {
     let alloc: Global = rt.alloc();
     let mut server = Server::new(alloc, "", 20)?;
     server.insist(SAID);
-    let mut account = account_of(alloc, server, 0)?;
-    for want in ["in", LISTED, "503 The server cannot be reached.", LISTED] {
-        let words = if want == "in" {
-            "login ann"
-        } else {
-            "list INBOX 1"
-        };
-        let got = call(alloc, &mut account, words)?;
-        assert_eq!(rt; got.as_str(), want);
-    }
-    let mut account = account_of(alloc, Server::new(alloc, RENEWED, 17)?, 0)?;
-    let got = calls(
-        alloc,
-        &mut account,
-        "login ann|part INBOX 8 5 1|show INBOX 8 7|show INBOX 8 7",
-    )?;
+    let words = "login ann|list INBOX 1|list INBOX 1|list INBOX 1";
+    let got = answered(alloc, server, words)?;
+    let list = listed();
+    let want = format!(in alloc; "in|{list}|503 The server cannot be reached.|{list}")?;
+    assert_eq!(rt; got.as_str(), want.as_str());
+    Ok(())
+}
+
+#[test]
+fn finds_a_renewed_folder_after_a_fault(rt: HostRuntime) -> Result<(), Fail> {
+    let alloc: Global = rt.alloc();
+    let server = Server::new(alloc, RENEWED, 17)?;
+    let words = "login ann|part INBOX 8 5 1|show INBOX 8 7|show INBOX 8 7";
+    let got = answered(alloc, server, words)?;
     assert_eq!(rt;
         got.as_str(),
         "in|200 hi|503 The server cannot be reached.|409 The folder was renewed: asked 8, now 9."
@@ -98,30 +103,28 @@ fn catches_up_after_a_fault(rt: HostRuntime) -> Result<(), Fail> {
     Ok(())
 }
 
+/// The number of the keeper's call that fails, calls, and what is answered to them.
+const KEPT: &str = concat!(
+    // Nobody has logged in yet.
+    "1 ~ login ann|folders|login ann|part INBOX 8 5 1 ~ unkept|nobody|in|200 hi\n",
+    // The user who is kept stays, and an ask logs in anew.
+    "2 ~ login ann|login ann|part INBOX 8 5 1 ~ in|unkept|200 hi\n",
+    // What was told for another user is forgotten, and the user with it.
+    "2 ~ login ann|login bob|folders ~ in|unkept|nobody\n",
+    // An ask makes no call of the keeper.
+    "2 ~ login ann|part INBOX 8 5 1 ~ in|200 hi",
+);
+
 #[test]
 fn answers_after_a_failed_call_of_the_keeper(rt: HostRuntime) -> Result<(), Fail> {
     let alloc: Global = rt.alloc();
-    for (failing, words, want) in [
-        // Nobody has logged in yet.
-        (
-            1,
-            "login ann|folders|login ann|part INBOX 8 5 1",
-            "unkept|nobody|in|200 hi",
-        ),
-        // The user who is kept stays, and an ask logs in anew.
-        (
-            2,
-            "login ann|login ann|part INBOX 8 5 1",
-            "in|unkept|200 hi",
-        ),
-        // What was told for another user is forgotten, and the user with it.
-        (2, "login ann|login bob|folders", "in|unkept|nobody"),
-        // An ask makes no call of the keeper.
-        (2, "login ann|part INBOX 8 5 1", "in|200 hi"),
-    ] {
+    for case in KEPT.split('\n') {
+        let (failing, rest) = case.split_once(" ~ ").unwrap_or((case, ""));
+        let (words, want) = rest.split_once(" ~ ").unwrap_or((rest, ""));
+        let failing = failing.parse::<u64>().unwrap_or(0);
         let mut account = account_of(alloc, Server::new(alloc, "", 0)?, failing)?;
         let got = calls(alloc, &mut account, words)?;
-        assert_eq!(rt; got.as_str(), want, "{words}");
+        assert_eq!(rt; got.as_str(), want, "{case}");
     }
     Ok(())
 }
@@ -143,7 +146,8 @@ fn call_again(
 fn answers_after_want_of_memory(rt: HostRuntime) -> Result<(), Fail> {
     let alloc: Global = rt.alloc();
     let mut account = account_of(alloc, Server::new(alloc, "", 0)?, 0)?;
-    for (words, want) in CALLS {
+    for entry in CALLS.split(" || ") {
+        let (words, want) = call_of(entry);
         let got = call_again(alloc, &mut account, words)?;
         assert_eq!(rt; got.as_str(), want, "{words}");
     }

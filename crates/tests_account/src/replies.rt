@@ -7,6 +7,7 @@ use std::str;
 
 /// The answers of a server that has a folder with one message: `COMMAND>ANSWER`, separated by `|`. The first that begins a command is its
 /// answer. `^` ends a line, and a line of `OK`, `NO` or `BAD` gets the tag of the command.
+/// A line of `%` and a number is that many bytes, and doesn't end.
 pub const MAIL: &str = concat!(
     "GREETING>* OK hi",
     "|LOGIN>OK in",
@@ -44,6 +45,9 @@ pub struct Replies {
     change: &'static str,
     pending: Vec<u8>,
     at: usize,
+    /// How many bytes are still to be sent before `pending` goes on at `filling_at`.
+    filling: usize,
+    filling_at: usize,
 }
 
 impl Replies {
@@ -52,30 +56,53 @@ impl Replies {
             change,
             pending: Vec::with_capacity(alloc, 1_024)?,
             at: 0,
+            filling: 0,
+            filling_at: 0,
         })
     }
 
-    /// Prepares the answer to a command; none, if there is none.
+    /// Prepares the answer to a command, or an empty line if there is none.
     pub fn answer(&mut self, tag: &str, command: &str) -> Result<(), Memory> {
         self.pending.clear();
         self.at = 0;
+        self.filling = 0;
         let answer = answer_in(self.change, command).or(answer_in(MAIL, command));
         for line in answer.unwrap_or("").split('^') {
-            if is_tagged(line) {
-                self.pending.extend_from_slice(tag.as_bytes())?;
-                self.pending.push(b' ')?;
-            }
-            self.pending.extend_from_slice(line.as_bytes())?;
-            self.pending.extend_from_slice(b"\r\n")?;
+            self.push_line(tag, line)?;
         }
         Ok(())
+    }
+
+    fn push_line(&mut self, tag: &str, line: &str) -> Result<(), Memory> {
+        if let Some(count) = line.strip_prefix('%') {
+            self.filling = count.parse::<usize>().unwrap_or(0);
+            self.filling_at = self.pending.len();
+            return Ok(());
+        }
+        if is_tagged(line) {
+            self.pending.extend_from_slice(tag.as_bytes())?;
+            self.pending.push(b' ')?;
+        }
+        self.pending.extend_from_slice(line.as_bytes())?;
+        self.pending.extend_from_slice(b"\r\n")
     }
 
     /// Moves bytes into `room` and returns their number.
     pub fn take(&mut self, room: &mut [u8]) -> usize
         ensures { result ≤ length room.new }
     {
-        let rest = self.pending.get(self.at..).unwrap_or(&[]);
+        if self.filling > 0 && self.at == self.filling_at {
+            let count = self.filling.min(room.len());
+            room[..count].fill(b'x');
+            self.filling -= count;
+            return count;
+        }
+        let end = if self.filling > 0 {
+            self.filling_at
+        } else {
+            self.pending.len()
+        };
+        let rest = self.pending.get(self.at..end).unwrap_or(&[]);
         let count = rest.len().min(room.len());
         room[..count].copy_from_slice(&rest[..count]);
         self.at = self.at.saturating_add(count);

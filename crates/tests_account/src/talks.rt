@@ -1,5 +1,5 @@
 //! Whole talks of a session.
-use crate::asks::call;
+use crate::asks::{call, calls};
 use crate::server::Server;
 use account_core::Account;
 use mail_io::{Bytes, Memory, ScriptedLink, Words};
@@ -26,24 +26,26 @@ const SAID: &str = concat!(
     "A15 UID FETCH 5 (UID BODY.PEEK[])\r\n",
 );
 
-/// The page of the list of the one folder.
-pub const LISTED: &str =
-    "200 INBOX</h1>\n<table class=\"list\"><tr class=\"seen\"><td>a@b.example</td><td><a href=\"/show/8/5?f=INBOX\">s</a></td><td>2026-01-01 00:00</td><td>10</td></tr></table>\n<p class=\"pages\">Page 1 of 1</p>";
+/// Calls, and what is answered to them. `||` separates them.
+pub const CALLS: &str = concat!(
+    "login ann ~ in || ",
+    "list INBOX 1 ~ 200 INBOX</h1>\n<table class=\"list\"><tr class=\"seen\"><td>a@b.example</td><td><a href=\"/show/8/5?f=INBOX\">s</a></td><td>2026-01-01 00:00</td><td>10</td></tr></table>\n<p class=\"pages\">Page 1 of 1</p> || ",
+    "folders ~ 200 Folders</h1>\n<ul class=\"folders\"><li><a href=\"/list?f=INBOX\">INBOX</a></li><li><a href=\"/list?f=Out\">Out</a> Sent</li></ul> || ",
+    "show INBOX 8 5 ~ 200 s</h1>\n<table class=\"head\"></table>\n<div class=\"mail\"><pre>\nhi</pre></div>\n<ul class=\"parts\"><li><a href=\"/part/8/5/1?f=INBOX\">1</a> text/plain 2</li></ul> || ",
+    "part INBOX 8 5 1 ~ 200 hi",
+);
 
-/// Calls, and what is answered to them.
-pub const CALLS: [(&str, &str); 5] = [
-    ("login ann", "in"),
-    ("list INBOX 1", LISTED),
-    (
-        "folders",
-        "200 Folders</h1>\n<ul class=\"folders\"><li><a href=\"/list?f=INBOX\">INBOX</a></li><li><a href=\"/list?f=Out\">Out</a> Sent</li></ul>",
-    ),
-    (
-        "show INBOX 8 5",
-        "200 s</h1>\n<table class=\"head\"></table>\n<div class=\"mail\"><pre>\nhi</pre></div>\n<ul class=\"parts\"><li><a href=\"/part/8/5/1?f=INBOX\">1</a> text/plain 2</li></ul>",
-    ),
-    ("part INBOX 8 5 1", "200 hi"),
-];
+/// The call of an entry of `CALLS`, and what is answered to it.
+pub fn call_of(entry: &'static str) -> (&'static str, &'static str) {
+    entry.split_once(" ~ ").unwrap_or((entry, ""))
+}
+
+/// What is answered to the call of a folder's list.
+pub fn listed() -> &'static str {
+    let (_, rest) = CALLS.split_once("list INBOX 1 ~ ").unwrap_or((CALLS, ""));
+    let (want, _) = rest.split_once(" || ").unwrap_or((rest, ""));
+    want
+}
 
 #[test]
 fn answers_a_whole_talk(rt: HostRuntime) -> Result<(), Fail> {
@@ -52,7 +54,8 @@ fn answers_a_whole_talk(rt: HostRuntime) -> Result<(), Fail> {
     server.insist(SAID);
     let keeper = MemoryKeeper::new(alloc, Vec::new(alloc));
     let mut account = Account::new(alloc, server, keeper);
-    for (words, want) in CALLS {
+    for entry in CALLS.split(" || ") {
+        let (words, want) = call_of(entry);
         let got = call(alloc, &mut account, words)?;
         assert_eq!(rt; got.as_str(), want, "{words}");
     }
@@ -87,15 +90,18 @@ fn push_line(bytes: &mut Bytes, line: &str) -> Result<(), Memory> {
     }
 }
 
-#[test]
-fn answers_over_a_link_that_tells(rt: HostRuntime) -> Result<(), Fail> {
-    let alloc: Global = rt.alloc();
+/// What is answered to calls over a link that tells its talk.
+fn told(alloc: Global, words: &str) -> Result<String, Memory> {
     let link = ScriptedLink::new(alloc, sent(alloc)?, 2_000, 40, Vec::new(alloc))?;
     let keeper = MemoryKeeper::new(alloc, Vec::new(alloc));
     let mut account = Account::new(alloc, link, keeper);
-    let got = call(alloc, &mut account, "login ann")?;
-    assert_eq!(rt; got.as_str(), "in");
-    let got = call(alloc, &mut account, "list INBOX 1")?;
-    assert_eq!(rt; got.as_str(), LISTED);
+    calls(alloc, &mut account, words)
+}
+
+#[test]
+fn answers_over_a_link_that_tells(rt: HostRuntime) -> Result<(), Fail> {
+    let alloc: Global = rt.alloc();
+    let got = told(alloc, "login ann|list INBOX 1")?;
+    assert_eq!(rt; got.as_str().strip_prefix("in|"), Some(listed()));
     Ok(())
 }
