@@ -1,0 +1,4 @@
+pub mod LetterLemmas
+pub mod OnceLemmas
+pub mod SendLemmas
+mod SendExamples

@@ -1,0 +1,3 @@
+pub mod Outboxes
+pub mod Sends
+pub mod Once

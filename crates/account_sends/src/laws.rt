@@ -1,0 +1,8 @@
+//! What holds of any turns of an account.
+ghost use Rattle.account_sends.specs.Once.{FormsAreSentOnce};
+
+/// States that no form is submitted again once its message was taken, or may have been. It does nothing.
+#[tactic(auto, using(crate::proofs::OnceLemmas::sent_once))]
+pub fn forms_are_sent_once()
+    ensures { FormsAreSentOnce }
+{}
