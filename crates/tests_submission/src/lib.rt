@@ -1,0 +1,7 @@
+//! Tests of submissions: what is said to a post server, and what becomes of a form whose sending fails.
+#![tactic(auto)]
+
+#[cfg(test)]
+mod posts;
+#[cfg(test)]
+mod sends;
