@@ -12,6 +12,6 @@ mod outbox;
 mod sending;
 
 pub use faults::SendFault;
-pub use laws::forms_are_sent_once;
+pub use laws::{dots_end_submissions, forms_are_sent_once};
 pub use letters::Letter;
 pub use outbox::Outbox;
