@@ -9,6 +9,7 @@ mod asks;
 mod faults;
 mod laws;
 mod logins;
+mod sending;
 
 pub use account::Account;
 pub use account_answers::{Answer, Cause};

@@ -9,7 +9,7 @@ use site_asks::Draft;
 use std::alloc::Global;
 use std::test::*;
 
-fn draft(alloc: Global, to: &str) -> Result<Draft, Memory> {
+pub fn draft(alloc: Global, to: &str) -> Result<Draft, Memory> {
     Ok(Draft {
         form: 43,
         identity: 1,
