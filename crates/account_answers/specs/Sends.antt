@@ -1,5 +1,5 @@
 -- What an account answers to a form that is to be sent.
-use Rattle.std.specs.Prelude.{◌≡◌, ℕ, true, List, [], ◌++◌, codes, decimal, Result, Ok, Err}
+use Rattle.std.specs.Prelude.{ℕ, true, List, [], ◌++◌, codes, decimal}
 use Rattle.std.specs.Str.Lossy.{utf8_lossy}
 use Rattle.compose_drafts.specs.Message.{hex_digits}
 use Rattle.site_asks.specs.declared.replies.Kind.TheVariants as kind

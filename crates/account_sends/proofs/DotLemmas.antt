@@ -1,7 +1,6 @@
 -- The dot is said in no step before the message.
-use Rattle.std.proofs.Common.{◌≡◌, ℕ, zero, suc, not, List, [], ◌∷◌, ◌++◌, map, take, refl, sym, ap, ◌∙◌, subst, inl, inr, Bool, true, false, All}
-use Rattle.std.specs.Prelude.{Option, Result, Ok, Err, ◌==◌, ◌||◌, ◌&&◌, ⊤, codes}
-use Rattle.std.specs.List.{list_any}
+use Rattle.std.proofs.Common.{◌≡◌, ℕ, zero, suc, not, List, [], ◌∷◌, ◌++◌, map, take, refl, sym, ap, ◌∙◌, subst, inl, inr, Bool, true, false}
+use Rattle.std.specs.Prelude.{Result, Ok, Err, ◌==◌, ◌||◌, ⊤}
 use Rattle.std.specs.Str.{bytes_eq}
 use Rattle.std.proofs.lemmas.Bool.{cases_Bool, eqb-true}
 use Rattle.account_pictures.specs.declared.talk.Piece.{Piece}
@@ -16,9 +15,9 @@ use Rattle.submission.specs.declared.steps.Step.{Step}
 use Rattle.submission.specs.declared.steps.Wanted.TheVariants as wanted
 use Rattle.submission.specs.Replies.{Hearing, dialled, hear}
 use Rattle.submission.specs.Script.{auth_line, data_line, dot_line, dotted, hello_line, is_wanted, recipient_line, recipient_step, say, script, sender_line}
-use Rattle.submission.specs.Submits.{Delivers, Ending, EndsMessage, Follows, Hears, HearsOut, IsCutShort, IsExchange, Quits, Submits, SubmitsOrNothing, dot_outcome, doubted, hearing_after, judged, lost, onward, opens, outcome_of, replied, wanted_or_refused}
+use Rattle.submission.specs.Submits.{Delivers, Ending, Follows, Hears, HearsOut, IsCutShort, IsExchange, Quits, Submits, dot_outcome, doubted, hearing_after, judged, lost, onward, opens, outcome_of, replied, wanted_or_refused}
 use Rattle.submission.proofs.Stuffing.{all_dotted, written}
-use Rattle.account_sends.specs.Dots.{DotsEndSubmissions, EndsAfterDot, is_said, says_dot}
+use Rattle.account_sends.specs.Dots.{DotsEndSubmissions, EndsAfterDot, says_dot}
 
 -- ---- pieces without the dot
 

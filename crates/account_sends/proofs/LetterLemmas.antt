@@ -1,39 +1,24 @@
 -- A draft whose recipients cannot be read is no message, for the same reason.
-use Rattle.std.proofs.Common.{◌≡◌, ℕ, ◌<◌, List, [], ◌∷◌, ◌++◌, length, sym, subst, inl, inr, arith}
-use Rattle.std.specs.Prelude.{ℤ, ◌&&◌, Result, Ok, Err, codes}
+use Rattle.std.proofs.Common.{ℕ, ◌<◌, List, [], ◌∷◌, ◌++◌, length, sym, subst, arith}
+use Rattle.std.specs.Prelude.{ℤ, Result}
 use Rattle.std.specs.List.{flat_map}
-use Rattle.std.proofs.lemmas.Bool.{cases_Bool}
 use Rattle.account_pictures.specs.declared.records.Identity.{Identity}
 use Rattle.jiff_core.specs.declared.civil.datetime.DateTime.{DateTime}
-use Rattle.mail_addresses.specs.declared.Mailbox.{Mailbox}
 use Rattle.site_asks.specs.declared.Draft.{Draft}
 use Rattle.compose_drafts.specs.declared.DraftFault.{DraftFault}
 use Rattle.compose_drafts.specs.declared.DraftFault.TheVariants as faults
 use Rattle.compose_drafts.specs.declared.parties.Parties.{Parties}
-use Rattle.compose_drafts.specs.Drafts.{◌>>=◌, FailsAs, IsSent, is_blank, parties_of, recipients_of, sent_parties_of}
+use Rattle.compose_drafts.specs.Drafts.{FailsAs, IsSent, parties_of}
 use Rattle.compose_drafts.specs.Message.{body, header, message}
 use Rattle.compose_drafts.specs.Paragraphs.{coded, is_seven_bit}
 use Rattle.compose_drafts.specs.Texts.{ended, line_end}
-use Rattle.compose_drafts.specs.Recipients.{addresses_in, addresses_of}
-
--- two fields that are read first fail alike, whatever comes after them
-two_fields : {A : Type 0} (first second : Result (List Mailbox) DraftFault) (next : List Mailbox → List Mailbox → Result A DraftFault) (fault : DraftFault)
-    → addresses_in first second ≡ Err fault → (first >>= λ to. second >>= λ more. next to more) ≡ Err fault
-two_fields (Err one) second next fault is = cc
-two_fields (Ok to) (Err one) next fault is = cc
-two_fields (Ok to) (Ok more) next fault is = cc
-
-pub same_err : (draft : Draft) (identity : Identity) (fault : DraftFault) → addresses_of draft ≡ Err fault → parties_of draft identity ≡ Err fault
-unfolding addresses_of parties_of sent_parties_of
-same_err draft identity fault = elim (cases_Bool (is_blank draft.to && is_blank draft.cc)) [
-  | inl blank ↦ rw blank (λ is. cc)
-  | inr some ↦ rw some (λ is. two_fields (recipients_of (codes "to") draft.to) (recipients_of (codes "cc") draft.cc) _ fault is)
-]
+use Rattle.compose_drafts.specs.Recipients.{addresses_of}
+use Rattle.draft_laws.proofs.Recipients.{shared_fault}
 
 pub same_fault : (draft : Draft) (identity : Identity) (fault : DraftFault) → FailsAs fault (addresses_of draft) → FailsAs fault (parties_of draft identity)
-same_fault draft identity faults.NoRecipient is = same_err draft identity faults.NoRecipient is
-same_fault draft identity (faults.NotAddress field at) is = same_err draft identity (faults.NotAddress field at) is
-same_fault draft identity (faults.Long bytes) is = same_err draft identity (faults.Long bytes) is
+same_fault draft identity faults.NoRecipient is = shared_fault draft identity faults.NoRecipient is
+same_fault draft identity (faults.NotAddress field at) is = shared_fault draft identity (faults.NotAddress field at) is
+same_fault draft identity (faults.Long bytes) is = shared_fault draft identity (faults.Long bytes) is
 same_fault draft identity faults.Memory is = tt
 
 -- ---- a message has bytes
