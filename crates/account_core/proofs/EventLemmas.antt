@@ -68,7 +68,7 @@ submits_letter who domain own draft moment letter old new before middle after re
     let form : letter.envelope.form ≡ draft.form = looks.letter.1.form in
     record {
       event = submits who.user who.password letter turn.sends.outcome;
-      of = (refl, refl, form);
+      of = (refl, refl, form, (moment, looks.letter));
       does = record {
         adopted = owned;
         unsent = if_told before.records before.adopted _ (λ told account. state_of account letter.envelope.form told ≡ None) looks.told

@@ -1,6 +1,6 @@
 -- What the sending of a form does to an account: what is looked up first, the connection that is tried, the submission, and the copy. Each
 -- of them may end it.
-use Rattle.std.specs.Prelude.{◌≡◌, ℤ, ℕ, List, [], Option, Some, None, Result, Ok, Err, IfOk, IfSome}
+use Rattle.std.specs.Prelude.{◌≡◌, ℤ, ℕ, List, [], Option, Some, None, Result, Ok, Err, IfOk, IfSome, OnOk}
 use Rattle.site_asks.specs.declared.Draft.{Draft}
 use Rattle.site_asks.specs.declared.asks.Ask.{Ask}
 use Rattle.record_io.specs.Keepers.{IfTold}
@@ -17,9 +17,9 @@ use Rattle.account_sends.specs.declared.letters.Letter.{Letter}
 use Rattle.account_sends.specs.Outboxes.{OutboxState}
 use Rattle.account_sends.specs.Sends.{IsKeptCaused, IsSomeLetter, Prepares, Sends, identity_for}
 use Rattle.account_answers.specs.declared.answer.Answer.{Answer}
-use Rattle.account_answers.specs.Answers.{answer_of_cause}
-use Rattle.account_answers.specs.Sends.{sent_answer, unsent_answer}
-use Rattle.account_core.specs.Turned.{unreachable}
+use Rattle.account_answers.specs.Answers.{IsSafeStop, answer_of_cause}
+use Rattle.account_answers.specs.Sends.{IsSafeUnsent, sent_answer, unsent_answer}
+use Rattle.account_core.specs.Turned.{IsSafeUnreachable, unreachable}
 
 -- memory may run out in place of any answer
 abbrev pub IsAnswer : {E : Type 0} → Answer → Result Answer E → Type 0
@@ -34,6 +34,16 @@ copied_answer Done = sent_answer
 copied_answer (Stopped cause) = answer_of_cause cause
 copied_answer Failed = unreachable
 
+-- a browser reads the page of an answer as its tokens, and loads the style sheet alone
+abbrev pub IsSafeCopied : Ending → Type 0
+IsSafeCopied Done = Unit {0}
+IsSafeCopied (Stopped cause) = IsSafeStop cause
+IsSafeCopied Failed = IsSafeUnreachable
+
+abbrev pub IsSafeCopy : {E F : Type 0} → Result Ending E → Result Answer F → Type 0
+IsSafeCopy (Ok ending) (Ok answer) = IsSafeCopied ending
+IsSafeCopy ending result = Unit {0}
+
 abbrev pub IsCopied : {E F : Type 0} → Result Ending E → Result Answer F → Type 0
 IsCopied (Ok ending) result = IsAnswer (copied_answer ending) result
 IsCopied (Err e) (Ok answer) = ⊥
@@ -45,6 +55,7 @@ pub record CopyTurn {E : Type 0} (who : Credentials) (ask : Ask) (message : List
   pub turn : mail.TurnedBy (script_with copy_steps old.up) (record { who = who; ask = ask; message = message }) old.up old.fresh old new ending
   pub link : IfOk ending (λ one. IsCausedBy one old.faults new.faults)
   pub answer : IsCopied ending result
+  pub safe : IsSafeCopy ending result
 
 -- ---- the submission
 
@@ -52,6 +63,7 @@ pub record CopyTurn {E : Type 0} (who : Credentials) (ask : Ask) (message : List
 pub record IsUnsent {E : Type 0} (form : ℕ) (fault : SendFault) (old new : SideState) (result : Result Answer E) : Type 0 where
   pub side : new ≡ old
   pub answer : IsAnswer (unsent_answer form fault) result
+  pub safe : OnOk result (IsSafeUnsent form fault)
 
 abbrev pub AfterSubmission : {E : Type 0} → Result (Unit {0}) SendFault → Credentials → Ask → Letter → SideState → SideState → Result Answer E → Type 0
 AfterSubmission (Ok done) who ask letter old new result = CopyTurn who ask letter.message old new result
@@ -65,11 +77,12 @@ pub record SubmitTurn {E : Type 0} (who : Credentials) (ask : Ask) (letter : Let
 
 -- ---- the connection
 
--- the mail server stopped it: nothing is sent
-pub record IsStopped {E : Type 0} (answer : Answer) (old new : SideState) (before after : OutboxState) (result : Result Answer E) : Type 0 where
+-- nothing is sent, and this is answered, which is safe
+pub record IsStopped {E : Type 0} (answer : Answer) (IsSafe : Type 0) (old new : SideState) (before after : OutboxState) (result : Result Answer E) : Type 0 where
   pub side : new ≡ old
   pub outbox : after ≡ before
   pub answers : IsAnswer answer result
+  pub safe : OnOk result IsSafe
 
 abbrev pub IsErr : {E : Type 0} → Result Answer E → Type 0
 IsErr (Ok answer) = ⊥
@@ -82,8 +95,8 @@ pub record IsBroken {E : Type 0} (old new : SideState) (before after : OutboxSta
 
 abbrev pub AfterTrial : {E F : Type 0} → Result Ending F → Credentials → Ask → Letter → SideState → SideState → OutboxState → OutboxState → Result Answer E → Type 0
 AfterTrial (Ok Done) who ask letter old new before after result = SubmitTurn who ask letter old new before after result
-AfterTrial (Ok (Stopped cause)) who ask letter old new before after result = IsStopped (answer_of_cause cause) old new before after result
-AfterTrial (Ok Failed) who ask letter old new before after result = IsStopped unreachable old new before after result
+AfterTrial (Ok (Stopped cause)) who ask letter old new before after result = IsStopped (answer_of_cause cause) (IsSafeStop cause) old new before after result
+AfterTrial (Ok Failed) who ask letter old new before after result = IsStopped unreachable IsSafeUnreachable old new before after result
 AfterTrial (Err e) who ask letter old new before after result = IsBroken old new before after result
 
 -- the connection to the mail server is tried by a script of the ask, and if that comes to its end the letter is submitted
@@ -97,9 +110,9 @@ pub record TryTurn {E : Type 0} (who : Credentials) (ask : Ask) (letter : Letter
 -- ---- all of it
 
 abbrev pub AfterLookup : {E : Type 0} → Result (Option Letter) SendFault → Credentials → Ask → Draft → SideState → SideState → OutboxState → OutboxState → Result Answer E → Type 0
-AfterLookup (Ok None) who ask draft old new before after result = IsStopped sent_answer old new before after result
+AfterLookup (Ok None) who ask draft old new before after result = IsStopped sent_answer (Unit {0}) old new before after result
 AfterLookup (Ok (Some letter)) who ask draft old new before after result = TryTurn who ask letter old new before after result
-AfterLookup (Err fault) who ask draft old new before after result = IsStopped (unsent_answer draft.form fault) old new before after result
+AfterLookup (Err fault) who ask draft old new before after result = IsStopped (unsent_answer draft.form fault) (IsSafeUnsent draft.form fault) old new before after result
 
 -- A form is looked up in the records; nothing else changes.
 pub record LooksUp (who : Credentials) (domain : List ℕ) (draft : Draft) (moment : ℤ) (before after : OutboxState) (found : Result (Option Letter) SendFault) : Type 0 where

@@ -30,11 +30,14 @@ IsAnswered ask key told (Ok ending) (Ok answer) = answer ≡ answer_of ask key e
 IsAnswered ask key told (Err e) (Ok answer) = ⊥
 IsAnswered ask key told ending (Err e) = Unit {0}
 
+abbrev pub IsSafeUnreachable : Type 0
+IsSafeUnreachable = IsFramePage (fault_page 503 (codes "The server cannot be reached.") true)
+
 -- what a browser makes of the answer
 abbrev pub IsSafeEnd : Ask → List ℕ → Ending → ToldState → Type 0
 IsSafeEnd ask key Done told = IsSafeDone ask key told
 IsSafeEnd ask key (Stopped cause) told = IsSafeStop cause
-IsSafeEnd ask key Failed told = IsFramePage (fault_page 503 (codes "The server cannot be reached.") true)
+IsSafeEnd ask key Failed told = IsSafeUnreachable
 
 abbrev pub IsSafeAnswer : {E F : Type 0} → Ask → List ℕ → ToldState → Result Ending E → Result Answer F → Type 0
 IsSafeAnswer ask key told (Ok ending) (Ok answer) = IsSafeEnd ask key ending told

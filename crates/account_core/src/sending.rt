@@ -1,7 +1,7 @@
 //! The turn of an ask that sends a form.
-ghost use Rattle.std.specs.Prelude.{◌≡◌, ◌<◌, length, IsSome, IfSome, IfOk};
+ghost use Rattle.std.specs.Prelude.{◌≡◌, ◌<◌, length, IsSome, IfSome, IfOk, OnOk};
 ghost use Rattle.account_core.specs.Accounts.{IsOwned};
-ghost use Rattle.account_core.specs.Sends.{CopyTurn, LooksUp, copied_answer, SendTurn, SubmitTurn, TryTurn};
+ghost use Rattle.account_core.specs.Sends.{CopyTurn, IsSafeCopied, LooksUp, copied_answer, SendTurn, SubmitTurn, TryTurn};
 
 use account_answers::{Answer, sent_answer, stopped_answer, unreachable_answer, unsent_answer};
 use account_mail::MailSide;
@@ -15,7 +15,8 @@ use std::alloc::Global;
 
 /// Returns the answer of a form that was sent, by how its copy ended.
 fn copied_answer(alloc: Global, ending: &Ending) -> Result<Answer, Memory>
-    ensures { IfOk result (λ answer. answer ≡ copied_answer ending.now) }
+    ensures equals { IfOk result (λ answer. answer ≡ copied_answer ending.now) }
+    ensures is_safe { OnOk result (IsSafeCopied ending.now) }
 {
     match ending {
         Ending::Done => sent_answer(alloc),
