@@ -9,6 +9,7 @@ mod asks;
 mod faults;
 mod laws;
 mod logins;
+mod once;
 mod sending;
 
 pub use account::Account;
@@ -19,3 +20,4 @@ pub use laws::{
     messages_are_fetched,
 };
 pub use mail_values::Memory;
+pub use once::forms_are_sent_once;
