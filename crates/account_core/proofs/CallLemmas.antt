@@ -1,6 +1,5 @@
 -- The events of calls, one after another.
 use Rattle.std.proofs.Common.{List, [], ◌∷◌}
-use Rattle.std.specs.Prelude.{IsSome}
 use Rattle.account_sends.specs.Outboxes.{OutboxState}
 use Rattle.account_sends.specs.Once.{Event, IsRun, quiet}
 use Rattle.account_sends.proofs.OnceLemmas.{sent_once}

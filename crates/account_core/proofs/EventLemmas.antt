@@ -1,5 +1,5 @@
 -- The sending of a form is one event of its account's outbox.
-use Rattle.std.proofs.Common.{◌≡◌, ℕ, List, [], refl, sym, ap, ◌∙◌, subst}
+use Rattle.std.proofs.Common.{◌≡◌, ℕ, List, refl, sym, ap, ◌∙◌, subst}
 use Rattle.std.specs.Prelude.{ℤ, IfSome, Option, Some, None, Result, Ok, Err}
 use Rattle.account_pictures.specs.declared.records.Identity.{Identity}
 use Rattle.account_pictures.specs.declared.records.Records.{Records}
@@ -18,7 +18,7 @@ use Rattle.account_sends.specs.declared.faults.SendFault.{SendFault}
 use Rattle.account_sends.specs.declared.letters.Letter.{Letter}
 use Rattle.account_sends.specs.Outboxes.{OutboxState}
 use Rattle.account_sends.specs.Sends.{Prepares, Submission}
-use Rattle.account_sends.specs.Once.{IsQuiet, IsSubmission, KeepsStates, quiet, submits}
+use Rattle.account_sends.specs.Once.{IsQuiet, KeepsStates, quiet, submits}
 use Rattle.account_answers.specs.declared.answer.Answer.{Answer}
 use Rattle.account_core.specs.Accounts.{IsOwned}
 use Rattle.account_core.specs.Events.{DoesEvent}

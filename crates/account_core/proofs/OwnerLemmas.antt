@@ -1,9 +1,8 @@
 -- The keeper has adopted who is kept, also after a login that failed.
-use Rattle.std.proofs.Common.{◌≡◌, List, ℕ, Bool, true, false, sym, subst, Option, Some, None}
+use Rattle.std.proofs.Common.{◌≡◌, List, ℕ, Bool, true, false, sym, subst, Option, None}
 use Rattle.std.specs.Prelude.{Ok, if◌then◌else◌}
 use Rattle.account_script.specs.declared.cause.Cause.{Cause}
 use Rattle.account_script.specs.declared.steps.Credentials.{Credentials}
-use Rattle.account_turns.specs.declared.endings.Ending.{Ending}
 use Rattle.account_turns.specs.declared.endings.Ending.TheVariants.{Stopped, Failed}
 use Rattle.account_turns.specs.Turns.{Errand}
 use Rattle.account_mail.specs.Sides.{SideState}

@@ -1,5 +1,5 @@
 -- What an ask does to an account.
-use Rattle.std.specs.Prelude.{◌≡◌, ℕ, true, false, List, codes, Result, Ok, Err, IfOk}
+use Rattle.std.specs.Prelude.{◌≡◌, ℕ, true, List, codes, Result, Ok, Err, IfOk}
 use Rattle.site_asks.specs.declared.asks.Ask.{Ask}
 use Rattle.mail_talk.specs.States.{ToldState}
 use Rattle.account_turns.specs.declared.endings.Ending.{Ending}
