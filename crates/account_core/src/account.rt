@@ -93,8 +93,9 @@ impl<L: Link, K: Keeper> Account<L, K> {
         }
     }
 
-    /// Answers an ask in one turn of the link. If the account is down, it logs in first. Out of memory, it is down, and the next connection
-    /// forgets what was told. `key` is the form key that the answer's forms carry, and `now` the moment, in seconds since 1970.
+    /// Answers an ask. If the account is down, it logs in before anything is said for the ask. Out of memory, it is down, and the next
+    /// connection forgets what was told. `key` is the form key that the answer's forms carry, and `now` the moment, in seconds since 1970: the
+    /// date of a message that is sent.
     pub fn handle(
         &mut self,
         alloc: Global,

@@ -38,7 +38,7 @@ fn ended_answer(
     }
 }
 
-/// Carries out an ask, and returns its answer.
+/// Carries out an ask of the mail server alone, and returns its answer.
 fn answer_ask<L: Link>(
     alloc: Global,
     mail: &mut MailSide<L>,
