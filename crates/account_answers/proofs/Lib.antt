@@ -1,3 +1,4 @@
 pub mod AnswersExamples
 pub mod DoneExamples
 pub mod SafeAnswers
+mod SendsExamples

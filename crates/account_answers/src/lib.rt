@@ -6,9 +6,11 @@
 
 pub mod answer;
 mod done;
+mod sends;
 mod texts;
 
 pub use account_script::Cause;
 pub use answer::{Answer, Body, stopped_answer, unkept_answer, unreachable_answer};
 pub use done::done_answer;
 pub use page_writer::{Memory, PageBytes};
+pub use sends::{sent_answer, unsent_answer};

@@ -2,6 +2,7 @@
 use Rattle.std.proofs.Common.{◌≡◌, ℕ, Bool, true, false, List, [], ◌∷◌, Option, Some, refl, ap, ◌∙◌}
 use Rattle.std.specs.Prelude.{if◌then◌else◌}
 use Rattle.account_pictures.specs.declared.records.Address.{Address}
+use Rattle.site_asks.specs.declared.Draft.{Draft}
 use Rattle.site_asks.specs.declared.asks.Ask.TheVariants as ask
 use Rattle.imap_commands.specs.declared.command.Command.TheVariants as command
 use Rattle.mailbox_rows.specs.declared.row.Row.{Row}
@@ -15,9 +16,9 @@ use Rattle.account_script.specs.declared.steps.Progress.{Progress}
 use Rattle.account_script.specs.declared.steps.Step.{Step}
 use Rattle.account_script.specs.declared.steps.Step.TheVariants as step
 use Rattle.account_script.specs.Asks.{address_of, folder_of}
-use Rattle.account_script.specs.Script.{body_act, check_act, check_size_act, fetch_body_act, is_selected, known_of, row_act, row_of, size_act, validity_of}
+use Rattle.account_script.specs.Script.{body_act, check_act, check_size_act, copy_act, fetch_body_act, is_selected, known_of, row_act, row_of, size_act, validity_of}
 use Rattle.account_turns.specs.Turns.{Due, Errand, due_by, ready}
-use Rattle.account_core.specs.Laws.{CatchesUp, FetchesBody, IsThere, ListsFolders, LogsIn, after_entry, box_of}
+use Rattle.account_core.specs.Laws.{CatchesUp, CopiesMessage, FetchesBody, IsThere, ListsFolders, LogsIn, TriesConnection, after_entry, box_of}
 
 -- a catch-up begins so, if the folder is told or not, and selected or not
 entry : Errand → List Step → Progress → ToldState → Bool → Bool → Due
@@ -44,6 +45,19 @@ lists_folders e is = record { lists = λ p t. refl; ends = λ p t. refl }
 pub logs_in : (e : Errand) (more : List Step) → LogsIn e more
 unfolding ready
 logs_in e more = record { dials = λ fresh p t. refl; login = λ p t. refl; capability = λ p t. refl; enable = λ p t. refl; list = λ p t. refl; admits = λ p t. refl }
+
+-- ---- forms
+
+pub tries_connection : (e : Errand) (key : List ℕ) (fields : Draft) → TriesConnection e key fields
+unfolding ready
+tries_connection e key fields = record { noop = λ p t. refl; ends = λ p t. refl }
+
+pub copies_message : (e : Errand) → CopiesMessage e
+unfolding ready
+copies_message e = record {
+  appends = λ p t folder is. ap (λ (o : Option (List ℕ)). due_by (copy_act o e.message) false p [] t.view.number (ready e false p [] t)) is;
+  no_folder = λ p t is. ap (λ (o : Option (List ℕ)). due_by (copy_act o e.message) false p [] t.view.number (ready e false p [] t)) is;
+}
 
 -- ---- a message
 

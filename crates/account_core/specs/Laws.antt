@@ -1,9 +1,11 @@
 -- What is said for an ask of an account that is up, command by command, if nothing stops its script.
-use Rattle.std.specs.Prelude.{◌≡◌, ℕ, ◌+◌, ◌==◌, nat_lt, Bool, true, false, List, [], ◌∷◌, ◌++◌, Option, Some, is_some}
+use Rattle.std.specs.Prelude.{◌≡◌, ℕ, ◌+◌, ◌==◌, nat_lt, Bool, true, false, List, [], ◌∷◌, ◌++◌, Option, Some, None, is_some}
 use Rattle.account_pictures.specs.declared.records.Address.{Address}
+use Rattle.site_asks.specs.declared.Draft.{Draft}
 use Rattle.site_asks.specs.declared.asks.Ask.TheVariants as ask
 use Rattle.imap_commands.specs.declared.command.Command.{Command}
 use Rattle.imap_commands.specs.declared.command.Command.TheVariants as command
+use Rattle.imap_commands.specs.declared.command.Label.TheVariants as label
 use Rattle.imap_commands.specs.Commands.{command_pieces}
 use Rattle.mailbox_rows.specs.declared.row.Row.{Row}
 use Rattle.mailbox_rows.specs.Mailboxes.{MailboxState}
@@ -18,8 +20,8 @@ use Rattle.account_answers.specs.Done.{body_at}
 use Rattle.account_script.specs.declared.steps.Progress.{Progress}
 use Rattle.account_script.specs.declared.steps.Step.{Step}
 use Rattle.account_script.specs.declared.steps.Step.TheVariants as step
-use Rattle.account_script.specs.Asks.{catch_up, folder_of, login_steps, read_message, script_of}
-use Rattle.account_script.specs.Script.{body_of, has_folder, is_selected, known_of, mark_of, message_limit, next_uid, row_of, rows_of, validity_of}
+use Rattle.account_script.specs.Asks.{catch_up, copy_steps, folder_of, login_steps, read_message, script_of, script_with}
+use Rattle.account_script.specs.Script.{body_of, has_folder, is_selected, known_of, mark_of, message_limit, next_uid, row_of, rows_of, sent_of, validity_of}
 use Rattle.account_turns.specs.Causes.{last_of}
 use Rattle.account_turns.specs.Turns.{Due, Errand, ready}
 use Rattle.account_core.specs.Turned.{answer_of}
@@ -67,6 +69,18 @@ pub record FetchesBody (e : Errand) (at : Address) : Type 0 where
 pub record ListsFolders (e : Errand) : Type 0 where
   pub lists : (p : Progress) (t : ToldState) → ready e false p (script_of ask.Folders true) t ≡ says t command.List [] p
   pub ends : (p : Progress) (t : ToldState) → ready e false p [] t ≡ Ends p.up
+
+-- ---- forms
+
+-- before a form is sent, the connection is tried by NOOP
+pub record TriesConnection (e : Errand) (key : List ℕ) (fields : Draft) : Type 0 where
+  pub noop : (p : Progress) (t : ToldState) → ready e false p (script_of (ask.SendDraft key fields) true) t ≡ says t command.Noop [] p
+  pub ends : (p : Progress) (t : ToldState) → ready e false p [] t ≡ Ends p.up
+
+-- after that, its message is copied by APPEND, if there is a folder of sent messages
+pub record CopiesMessage (e : Errand) : Type 0 where
+  pub appends : (p : Progress) (t : ToldState) (folder : List ℕ) → sent_of t.view.folders ≡ Some folder → ready e false p (script_with copy_steps true) t ≡ says t (command.Append folder (Some label.Seen) e.message) [] p
+  pub no_folder : (p : Progress) (t : ToldState) → sent_of t.view.folders ≡ None → ready e false p (script_with copy_steps true) t ≡ Ends p.up
 
 -- ---- logins
 

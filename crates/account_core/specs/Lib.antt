@@ -1,4 +1,7 @@
 pub mod Accounts
 pub mod Turned
+pub mod Sends
+pub mod Served
+pub mod Events
 pub mod Logins
 pub mod Laws

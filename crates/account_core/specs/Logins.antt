@@ -66,5 +66,8 @@ left (Err fault) side = left_after fault side
 -- what a login does to an account
 pub record LoggedIn {U : Type 0} (user password : List ℕ) (old new : AccountState) (result : Result U LoginFault) : Type 0 where
   pub side : SideState
-  pub turn : LoginTurn user password old.mail side new.adopted old.faults new.faults result
+  pub turn : LoginTurn user password old.mail side new.outbox.adopted old.outbox.keeper_faults new.outbox.keeper_faults result
   pub leaves : new.mail ≡ left result side
+  -- of the outbox nothing else changes
+  pub outbox : new.outbox ≡ record old.outbox { adopted = new.outbox.adopted; keeper_faults = new.outbox.keeper_faults }
+  pub domain : new.domain ≡ old.domain

@@ -1,5 +1,5 @@
 -- What an ask does to an account.
-use Rattle.std.specs.Prelude.{◌≡◌, ℕ, true, false, List, codes, Result, Ok, Err, IfOk}
+use Rattle.std.specs.Prelude.{◌≡◌, ℕ, true, List, codes, Result, Ok, Err, IfOk}
 use Rattle.site_asks.specs.declared.asks.Ask.{Ask}
 use Rattle.mail_talk.specs.States.{ToldState}
 use Rattle.account_turns.specs.declared.endings.Ending.{Ending}
@@ -13,13 +13,16 @@ use Rattle.account_answers.specs.Answers.{IsSafeStop, answer_of_cause, fault_ans
 use Rattle.account_answers.specs.Done.{IsSafeDone, answer_of_done}
 use Rattle.account_mail.specs.Sides.{SideState}
 use Rattle.account_mail.specs.Turned as mail
-use Rattle.account_core.specs.Accounts.{AccountState}
+
+-- the answer if the link to the mail server failed
+abbrev pub unreachable : Answer
+unreachable = fault_answer 503 (codes "The server cannot be reached.")
 
 -- the answer to an ask, by how its script ended and what was told then
 abbrev pub answer_of : Ask → List ℕ → Ending → ToldState → Answer
 answer_of ask key Done told = answer_of_done ask key told
 answer_of ask key (Stopped cause) told = answer_of_cause cause
-answer_of ask key Failed told = fault_answer 503 (codes "The server cannot be reached.")
+answer_of ask key Failed told = unreachable
 
 -- an answer is that of an ending; without an ending there is none
 abbrev pub IsAnswered : {E F : Type 0} → Ask → List ℕ → ToldState → Result Ending E → Result Answer F → Type 0
@@ -27,11 +30,14 @@ IsAnswered ask key told (Ok ending) (Ok answer) = answer ≡ answer_of ask key e
 IsAnswered ask key told (Err e) (Ok answer) = ⊥
 IsAnswered ask key told ending (Err e) = Unit {0}
 
+abbrev pub IsSafeUnreachable : Type 0
+IsSafeUnreachable = IsFramePage (fault_page 503 (codes "The server cannot be reached.") true)
+
 -- what a browser makes of the answer
 abbrev pub IsSafeEnd : Ask → List ℕ → Ending → ToldState → Type 0
 IsSafeEnd ask key Done told = IsSafeDone ask key told
 IsSafeEnd ask key (Stopped cause) told = IsSafeStop cause
-IsSafeEnd ask key Failed told = IsFramePage (fault_page 503 (codes "The server cannot be reached.") true)
+IsSafeEnd ask key Failed told = IsSafeUnreachable
 
 abbrev pub IsSafeAnswer : {E F : Type 0} → Ask → List ℕ → ToldState → Result Ending E → Result Answer F → Type 0
 IsSafeAnswer ask key told (Ok ending) (Ok answer) = IsSafeEnd ask key ending told
@@ -46,14 +52,3 @@ pub record AskTurn {E : Type 0} (e : Errand) (key : List ℕ) (old new : SideSta
   pub safe : IsSafeAnswer e.ask key new.ear.told ending result
   -- the link failed exactly if its count of faults rose
   pub link : IfOk ending (λ one. IsCausedBy one old.faults new.faults)
-
--- after want of memory the account is down, and its next dial forgets what was told
-abbrev pub settled : {T E : Type 0} → Result T E → SideState → SideState
-settled (Ok value) side = side
-settled (Err e) side = record side { up = false; fresh = true }
-
--- what an ask does to an account: one turn of its link
-pub record Turned {E : Type 0} (e : Errand) (key : List ℕ) (old new : AccountState) (result : Result Answer E) : Type 0 where
-  pub side : SideState
-  pub turn : AskTurn e key old.mail side result
-  pub settles : new.mail ≡ settled result side

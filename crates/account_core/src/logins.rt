@@ -1,11 +1,13 @@
 //! The turn of a login.
 ghost use Rattle.std.specs.Prelude.{◌≡◌, true, false, Some, Ok, Err, IfOk, OnOk, OnErr};
-ghost use Rattle.mail_io.specs.Causes.{Rose};
 ghost use Rattle.account_mail.specs.Turned.{who_without_login};
+ghost use Rattle.account_sends.specs.Once.{IsQuiet};
+ghost use Rattle.account_core.specs.Accounts.{IsOwned};
 ghost use Rattle.account_core.specs.Logins.{AdoptEnd, LoginTurn, left_after};
 
 use crate::faults::LoginFault;
 use account_mail::MailSide;
+use account_sends::Outbox;
 use account_turns::{Credentials, Ending};
 use mail_io::Link;
 use mail_values::Text;
@@ -16,15 +18,17 @@ use std::alloc::Global;
 fn adopt<L: Link, K: Keeper>(
     alloc: Global,
     mail: &mut MailSide<L>,
-    keeper: &mut K,
+    outbox: &mut Outbox<L, K>,
     user: &Text,
     kept: Option<Credentials>,
 ) -> Result<(), LoginFault>
     ensures user { OnOk result (mail.new.who ≡ mail.old.who) }
-    ensures ends { AdoptEnd user.now kept mail.old mail.new (K.adopted keeper.new) (K.faults keeper.old) (K.faults keeper.new) result }
-    ensures keeps_records { K.records keeper.new ≡ K.records keeper.old }
+    ensures ends { AdoptEnd user.now kept mail.old mail.new outbox.new.adopted outbox.old.keeper_faults outbox.new.keeper_faults result }
+    ensures keeps { outbox.new ≡ record outbox.old { adopted = outbox.new.adopted; keeper_faults = outbox.new.keeper_faults } }
+    ensures adopted_on_err { OnErr result (outbox.new.adopted ≡ outbox.old.adopted) }
+    ensures kept_on_err { OnErr result (mail.new.who ≡ kept) }
 {
-    match keeper.adopt(alloc, user.as_str()) {
+    match outbox.adopt(alloc, user) {
         Ok(()) => Ok(()),
         Err(KeepFault::Failed) => {
             mail.restore(kept);
@@ -41,17 +45,19 @@ fn adopt<L: Link, K: Keeper>(
 pub fn log_in<L: Link, K: Keeper>(
     alloc: Global,
     mail: &mut MailSide<L>,
-    keeper: &mut K,
+    outbox: &mut Outbox<L, K>,
     user: &Text,
     password: &Text,
 ) -> Result<(), LoginFault>
-    ensures turn { LoginTurn user.now password.now mail.old mail.new (K.adopted keeper.new) (K.faults keeper.old) (K.faults keeper.new) result }
+    ensures turn { LoginTurn user.now password.now mail.old mail.new outbox.new.adopted outbox.old.keeper_faults outbox.new.keeper_faults result }
     ensures user { OnOk result (mail.new.who ≡ Some (record { user = user.now; password = password.now })) }
-    ensures keeps_records { K.records keeper.new ≡ K.records keeper.old }
+    ensures keeps { outbox.new ≡ record outbox.old { adopted = outbox.new.adopted; keeper_faults = outbox.new.keeper_faults } }
+    ensures quiet { IsQuiet outbox.old outbox.new }
+    ensures owned { IsOwned mail.old.who outbox.old.adopted → IsOwned mail.new.who outbox.new.adopted }
 {
     let kept = mail.who_without_login(alloc, user)?;
     match mail.login(alloc, user, password)? {
-        Ending::Done => adopt(alloc, mail, keeper, user, kept),
+        Ending::Done => adopt(alloc, mail, outbox, user, kept),
         Ending::Stopped(cause) => Err(LoginFault::Stopped(cause)),
         Ending::Failed => Err(LoginFault::Unreachable),
     }

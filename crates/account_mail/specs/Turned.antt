@@ -7,6 +7,7 @@ use Rattle.site_asks.specs.declared.asks.Ask.TheVariants as ask
 use Rattle.mail_talk.specs.Told.{Talk, no_talk, after_piece}
 use Rattle.mail_talk.specs.Units.{TalkState}
 use Rattle.account_script.specs.declared.steps.Credentials.{Credentials}
+use Rattle.account_script.specs.declared.steps.Step.{Step}
 use Rattle.account_script.specs.Asks.{script_of}
 use Rattle.account_turns.specs.declared.endings.Ending.{Ending}
 use Rattle.account_turns.specs.declared.endings.Ending.TheVariants.{Done, Stopped, Failed}
@@ -19,12 +20,12 @@ use Rattle.account_mail.specs.Sides.{SideState, IsTalk}
 abbrev pub talk_of : List Piece → Talk
 talk_of pieces = fold after_piece no_talk pieces
 
--- a turn as it begins, after some pieces
-abbrev pub opening : Errand → Bool → Bool → List Piece → Turn
-opening e up fresh pieces = record {
+-- a turn as it begins, after some pieces, with these steps
+abbrev pub opening_with : List Step → Errand → Bool → Bool → List Piece → Turn
+opening_with steps e up fresh pieces = record {
   errand = e;
   talk = talk_of pieces;
-  steps = script_of e.ask up;
+  steps = steps;
   progress = record { up = up; mark = 0 };
   fresh = fresh;
   begun = false;
@@ -32,6 +33,10 @@ opening e up fresh pieces = record {
   last = lasts.Dial;
   left = [];
 }
+
+-- the same with the script of the errand's ask
+abbrev pub opening : Errand → Bool → Bool → List Piece → Turn
+opening e up fresh pieces = opening_with (script_of e.ask up) e up fresh pieces
 
 -- what was due at the end of a turn, and whether the account is logged in then
 abbrev pub EndsAs : Ending → Bool → Turn → Type 0
@@ -45,12 +50,16 @@ pub record Ended (ending : Ending) (up fresh : Bool) (ear : TalkState) (u : Turn
   pub fresh_next : u.fresh ≡ fresh
   pub told : fresh ≡ false → u.talk.state ≡ ear
 
--- A turn for an errand: its pieces came when they were due, after the talk before it, and it ended as the result says. If the link tells
--- its talk, that grew by exactly these pieces.
-pub record Turned {E : Type 0} (e : Errand) (up fresh : Bool) (old new : SideState) (result : Result Ending E) : Type 0 where
+-- A turn of some steps for an errand: its pieces came when they were due, after the talk before it, and it ended as the result says. If the
+-- link tells its talk, that grew by exactly these pieces.
+pub record TurnedBy {E : Type 0} (steps : List Step) (e : Errand) (up fresh : Bool) (old new : SideState) (result : Result Ending E) : Type 0 where
   pub pieces : List Piece
   pub same : IsTalk old.talk pieces
-  pub goes : Continues old.talk new.talk (opening e up fresh pieces) (λ u. IfOk result (λ ending. Ended ending new.up new.fresh new.ear u))
+  pub goes : Continues old.talk new.talk (opening_with steps e up fresh pieces) (λ u. IfOk result (λ ending. Ended ending new.up new.fresh new.ear u))
+
+-- a turn of the script of an errand's ask
+abbrev pub Turned : {E : Type 0} → Errand → Bool → Bool → SideState → SideState → Result Ending E → Type 0
+Turned e up fresh old new result = TurnedBy (script_of e.ask up) e up fresh old new result
 
 -- ---- logins
 
@@ -64,7 +73,7 @@ login_fresh user who fresh = fresh || not (is_user user who)
 
 -- who a login is for
 abbrev pub login_errand : List ℕ → List ℕ → Errand
-login_errand user password = record { who = record { user = user; password = password }; ask = ask.LoginPage }
+login_errand user password = record { who = record { user = user; password = password }; ask = ask.LoginPage; message = [] }
 
 -- Who is kept after a login whose dial was to be fresh or not, and would still be: who logged in, if all was answered; nobody, if the dial
 -- forgot what was told; else who was kept.

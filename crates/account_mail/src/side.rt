@@ -1,10 +1,11 @@
 //! An account's side of its mail server.
 ghost use Rattle.std.specs.Prelude.{◌≡◌, [], true, false, Some, None, IsSome, IfOk, OnErr, IfSome, IfNone};
 ghost use Rattle.mail_talk.specs.States.{nothing_told};
+ghost use Rattle.account_script.specs.Asks.{copy_steps, script_with};
 ghost use Rattle.account_turns.specs.Exchanges.{IsCausedBy};
-ghost use Rattle.account_mail.specs.Turned.{IsKeptUser, LoggedIn, Turned, login_errand, who_without_login};
+ghost use Rattle.account_mail.specs.Turned.{IsKeptUser, LoggedIn, Turned, TurnedBy, login_errand, who_without_login};
 
-use crate::turns::{credentials, follow_ask, forgets, log_in};
+use crate::turns::{credentials, follow_ask, follow_copy, forgets, log_in};
 use account_turns::{Credentials, Ending};
 use mail_io::Link;
 use mail_talk::{Listener, Told};
@@ -105,7 +106,7 @@ impl<L: Link> MailSide<L> {
     /// what was told.
     pub fn carry_out(&mut self, alloc: Global, ask: &Ask) -> Result<Ending, Memory>
         requires who { IsSome self.old.who }
-        ensures turned { IfSome self.old.who (λ who. Turned (record { who = who; ask = ask.now }) self.old.up self.old.fresh self.old self.new result) }
+        ensures turned { IfSome self.old.who (λ who. Turned (record { who = who; ask = ask.now; message = [] }) self.old.up self.old.fresh self.old self.new result) }
         ensures same_user { self.new.who ≡ self.old.who }
         ensures fault { IfOk result (λ ending. IsCausedBy ending self.old.faults self.new.faults) }
         ensures memory { OnErr result ((self.new.up ≡ false) × (self.new.fresh ≡ true)) }
@@ -121,6 +122,37 @@ impl<L: Link> MailSide<L> {
             &mut self.up,
             who,
             ask,
+        ) {
+            Ok(ending) => Ok(ending),
+            Err(error) => {
+                self.up = false;
+                self.fresh = true;
+                Err(error)
+            }
+        }
+    }
+
+    /// Copies a message to the folder of sent messages, if there is one, in one turn for the same ask. If the account isn't logged in, it logs in
+    /// first. Out of memory, it is down, and the next dial forgets what was told.
+    pub fn copy(&mut self, alloc: Global, ask: &Ask, message: &[u8]) -> Result<Ending, Memory>
+        requires who { IsSome self.old.who }
+        ensures turned { IfSome self.old.who (λ who. TurnedBy (script_with copy_steps self.old.up) (record { who = who; ask = ask.now; message = message.now }) self.old.up self.old.fresh self.old self.new result) }
+        ensures same_user { self.new.who ≡ self.old.who }
+        ensures fault { IfOk result (λ ending. IsCausedBy ending self.old.faults self.new.faults) }
+        ensures memory { OnErr result ((self.new.up ≡ false) × (self.new.fresh ≡ true)) }
+    {
+        let Some(who) = &self.who else {
+            return Err(Memory);
+        };
+        match follow_copy(
+            alloc,
+            &mut self.link,
+            &mut self.listener,
+            &mut self.fresh,
+            &mut self.up,
+            who,
+            ask,
+            message,
         ) {
             Ok(ending) => Ok(ending),
             Err(error) => {

@@ -1,14 +1,14 @@
 //! One turn of a link.
-ghost use Rattle.std.specs.Prelude.{◌≡◌, ◌&&◌, false, true, IfOk, OnErr};
-ghost use Rattle.account_script.specs.Asks.{login_steps, script_of};
+ghost use Rattle.std.specs.Prelude.{◌≡◌, ◌&&◌, [], false, true, IfOk, OnErr};
+ghost use Rattle.account_script.specs.Asks.{copy_steps, login_steps, script_of, script_with};
 ghost use Rattle.account_turns.specs.Exchanges.{IsCausedBy, IsUnheard};
-ghost use Rattle.account_turns.specs.Steps.{Matches};
+ghost use Rattle.account_turns.specs.Steps.{IsFirst, Matches, is_unsteady};
 ghost use Rattle.account_turns.specs.Turns.{Continues, Turn};
 ghost use Rattle.account_mail.specs.Sides.{IsSteady};
 ghost use Rattle.account_mail.specs.Turned.{Ended, IsKeptUser, LoginEnded, is_user, login_errand, login_fresh, who_after};
 ghost use Rattle.account_mail.specs.Ups.{up_after};
 
-use account_script::{Progress, script};
+use account_script::{Progress, Step, copy_script, script};
 use account_turns::{Credentials, Ending, follow, keeps_up};
 use mail_io::Link;
 use mail_talk::Listener;
@@ -27,6 +27,42 @@ fn is_up_after(ending: &Ending, up: bool) -> bool
     }
 }
 
+/// Follows the steps of a script from its first on. Out of memory, nothing is said of `listener` and of `up`.
+fn follow_script<L: Link>(
+    alloc: Global,
+    link: &mut L,
+    listener: &mut Listener,
+    fresh: &mut bool,
+    up: &mut bool,
+    who: &Credentials,
+    ask: &Ask,
+    message: &[u8],
+    steps: &[Step],
+) -> Result<Ending, Memory>
+    requires first { IsFirst (is_unsteady fresh.old listener.old) steps.now }
+    requires steady { IsSteady up.old fresh.old listener.old }
+    ensures turn { (t : Turn) → Matches (record { who = who.now; ask = ask.now; message = message.now }) steps.now fresh.old (record { up = up.old; mark = 0 }) listener.old t →
+        Continues (L.talk link.old) (L.talk link.new) t (λ u. IfOk result (λ ending. Ended ending up.new fresh.new listener.new u)) }
+    ensures fault { IfOk result (λ ending. IsCausedBy ending (L.faults link.old) (L.faults link.new)) }
+    ensures unheard { IfOk result (λ ending. fresh.new ≡ true → IsUnheard fresh.old listener.old listener.new) }
+    ensures steady { IfOk result (λ ending. IsSteady up.new fresh.new listener.new) }
+{
+    let mut progress = Progress { up: *up, mark: 0 };
+    let ending = follow(
+        alloc,
+        link,
+        listener,
+        fresh,
+        &mut progress,
+        who,
+        ask,
+        message,
+        steps,
+    )?;
+    *up = is_up_after(&ending, progress.up);
+    Ok(ending)
+}
+
 /// Follows the script of an ask. Out of memory, nothing is said of `listener` and of `up`.
 pub fn follow_ask<L: Link>(
     alloc: Global,
@@ -38,26 +74,35 @@ pub fn follow_ask<L: Link>(
     ask: &Ask,
 ) -> Result<Ending, Memory>
     requires steady { IsSteady up.old fresh.old listener.old }
-    ensures turn { (t : Turn) → Matches (record { who = who.now; ask = ask.now }) (script_of ask.now up.old) fresh.old (record { up = up.old; mark = 0 }) listener.old t →
+    ensures turn { (t : Turn) → Matches (record { who = who.now; ask = ask.now; message = [] }) (script_of ask.now up.old) fresh.old (record { up = up.old; mark = 0 }) listener.old t →
         Continues (L.talk link.old) (L.talk link.new) t (λ u. IfOk result (λ ending. Ended ending up.new fresh.new listener.new u)) }
     ensures fault { IfOk result (λ ending. IsCausedBy ending (L.faults link.old) (L.faults link.new)) }
     ensures unheard { IfOk result (λ ending. fresh.new ≡ true → IsUnheard fresh.old listener.old listener.new) }
     ensures steady { IfOk result (λ ending. IsSteady up.new fresh.new listener.new) }
 {
     let steps = script(alloc, ask, *up)?;
-    let mut progress = Progress { up: *up, mark: 0 };
-    let ending = follow(
-        alloc,
-        link,
-        listener,
-        fresh,
-        &mut progress,
-        who,
-        ask,
-        &steps,
-    )?;
-    *up = is_up_after(&ending, progress.up);
-    Ok(ending)
+    follow_script(alloc, link, listener, fresh, up, who, ask, &[], &steps)
+}
+
+/// Copies a message to the folder of sent messages, if there is one. Out of memory, nothing is said of `listener` and of `up`.
+pub fn follow_copy<L: Link>(
+    alloc: Global,
+    link: &mut L,
+    listener: &mut Listener,
+    fresh: &mut bool,
+    up: &mut bool,
+    who: &Credentials,
+    ask: &Ask,
+    message: &[u8],
+) -> Result<Ending, Memory>
+    requires steady { IsSteady up.old fresh.old listener.old }
+    ensures turn { (t : Turn) → Matches (record { who = who.now; ask = ask.now; message = message.now }) (script_with copy_steps up.old) fresh.old (record { up = up.old; mark = 0 }) listener.old t →
+        Continues (L.talk link.old) (L.talk link.new) t (λ u. IfOk result (λ ending. Ended ending up.new fresh.new listener.new u)) }
+    ensures fault { IfOk result (λ ending. IsCausedBy ending (L.faults link.old) (L.faults link.new)) }
+    ensures steady { IfOk result (λ ending. IsSteady up.new fresh.new listener.new) }
+{
+    let steps = copy_script(alloc, *up)?;
+    follow_script(alloc, link, listener, fresh, up, who, ask, message, &steps)
 }
 
 /// Whether the credentials that are kept are a user's.

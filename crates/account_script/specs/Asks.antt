@@ -31,6 +31,14 @@ login_steps = step.Dial ∷ step.LogIn ∷ step.AskCapabilities ∷ step.Enable 
 abbrev pub catch_up : List Step
 catch_up = step.Find ∷ step.Need ∷ step.Enter ∷ step.FetchNew ∷ step.FetchChanged ∷ []
 
+-- the connection is tried
+abbrev pub try_connection : List Step
+try_connection = step.Noop ∷ []
+
+-- a sent message is copied to the folder of sent messages
+abbrev pub copy_steps : List Step
+copy_steps = step.Copy ∷ []
+
 -- a message is read whole
 abbrev pub read_message : List Step
 read_message = step.Check ∷ step.CheckSize ∷ step.FetchBody ∷ step.NeedBody ∷ []
@@ -40,13 +48,18 @@ ask_steps ask.Folders = step.List ∷ []
 ask_steps (ask.List folder page) = catch_up
 ask_steps (ask.Show at part images) = catch_up ++ read_message
 ask_steps (ask.Part at section) = catch_up ++ read_message
+ask_steps (ask.SendDraft key fields) = try_connection
 ask_steps other = []
 
--- the steps of an ask of an account that is up, or down
-abbrev pub script_of : Ask → Bool → List Step
-script_of one up = if up then ask_steps one else login_steps ++ ask_steps one
+-- steps of an account that is up, or down
+abbrev pub script_with : List Step → Bool → List Step
+script_with steps up = if up then steps else login_steps ++ steps
 
--- the asks that scripts are written of
+-- the steps of an ask
+abbrev pub script_of : Ask → Bool → List Step
+script_of one up = script_with (ask_steps one) up
+
+-- the asks of which a script is all that is done
 abbrev pub has_script : Ask → Bool
 has_script ask.Folders = true
 has_script (ask.List folder page) = true

@@ -1,13 +1,14 @@
 -- What each step of a script comes to, after what was told (RFC 9051 §6, RFC 7162 §3.2.5).
-use Rattle.std.specs.Prelude.{ℕ, ◌+◌, ◌-◌, ◌^◌, min, ◌==◌, nat_lt, Bool, true, false, if◌then◌else◌, List, [], length, slice_get, Option, Some, None}
+use Rattle.std.specs.Prelude.{ℕ, ◌+◌, ◌-◌, ◌^◌, min, ◌==◌, nat_lt, Bool, true, false, if◌then◌else◌, List, [], length, slice_get, codes, find, Option, Some, None}
 use Rattle.std.specs.List.{list_any}
 use Rattle.std.specs.Map.{keys_of, lookup}
 use Rattle.std.specs.Option.{unwrap_or, option_map}
-use Rattle.std.specs.Str.{bytes_eq}
+use Rattle.std.specs.Str.{bytes_eq, is_utf8, str_eq_ignore_ascii_case}
 use Rattle.account_pictures.specs.declared.records.Address.{Address}
 use Rattle.site_asks.specs.declared.asks.Ask.{Ask}
 use Rattle.imap_commands.specs.declared.command.Known.{Known}
 use Rattle.imap_commands.specs.declared.command.Command.TheVariants as command
+use Rattle.imap_commands.specs.declared.command.Label.TheVariants as label
 use Rattle.imap_commands.specs.ReadBack.{FitsFieldTypes}
 use Rattle.mailbox_rows.specs.declared.row.Folder.{Folder}
 use Rattle.mailbox_rows.specs.declared.row.Row.{Row}
@@ -122,6 +123,33 @@ abbrev pub body_act : Option (List ℕ) → Act
 body_act None = act.Stop cause.NoMessage
 body_act (Some body) = act.Skip
 
+-- ---- special folders (RFC 6154 §2)
+
+abbrev pub has_use : List ℕ → Folder → Bool
+has_use attribute folder = list_any (λ one. str_eq_ignore_ascii_case one attribute) folder.attributes
+
+abbrev pub text_or_none : List ℕ → Option (List ℕ)
+text_or_none name = if is_utf8 name then Some name else None
+
+abbrev pub name_or : List ℕ → Bool → Option Folder → Option (List ℕ)
+name_or name told (Some folder) = text_or_none folder.name
+name_or name told None = if told then Some name else None
+
+-- the first folder with an attribute, or else the folder of a name; a name that is no text can't be said
+abbrev pub special_folder : List ℕ → List ℕ → List Folder → Option (List ℕ)
+special_folder attribute name folders = name_or name (has_folder name folders) (find (has_use attribute) folders)
+
+-- the folder of sent messages
+abbrev pub sent_of : List Folder → Option (List ℕ)
+sent_of folders = special_folder (codes "\\Sent") (codes "Sent") folders
+
+-- ---- a sent message
+
+-- without a folder of sent messages there is no copy
+abbrev pub copy_act : Option (List ℕ) → List ℕ → Act
+copy_act None message = act.Skip
+copy_act (Some folder) message = act.Say (command.Append folder (Some label.Seen) message)
+
 -- ---- all steps
 
 abbrev pub act_of : Step → Credentials → Ask → ToldState → Progress → Act
@@ -140,6 +168,13 @@ act_of step.Check who ask t p = check_act (address_of ask) t
 act_of step.CheckSize who ask t p = check_size_act (address_of ask) t
 act_of step.FetchBody who ask t p = fetch_body_act (address_of ask)
 act_of step.NeedBody who ask t p = body_act (body_of t.results.message)
+act_of step.Noop who ask t p = act.Say command.Noop
+act_of step.Copy who ask t p = act.Skip
+
+-- the same of a script that copies a message
+abbrev pub act_with : List ℕ → Step → Credentials → Ask → ToldState → Progress → Act
+act_with message step.Copy who ask t p = copy_act (sent_of t.view.folders) message
+act_with message other who ask t p = act_of other who ask t p
 
 abbrev pub mark_of : Option MailboxState → ℕ
 mark_of None = 0

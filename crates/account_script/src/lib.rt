@@ -5,11 +5,12 @@
 #![tactic(auto)]
 
 pub mod cause;
+pub mod copies;
 pub mod folders;
 pub mod scripts;
 pub mod steps;
 
 pub use cause::Cause;
 pub use mail_values::Memory;
-pub use scripts::script;
-pub use steps::{Act, Credentials, Progress, Step, act_at, progress_at};
+pub use scripts::{copy_script, script};
+pub use steps::{Act, Credentials, Progress, Step, act_at, act_with, progress_at};

@@ -1,6 +1,6 @@
 //! The steps of an ask.
 ghost use Rattle.std.specs.Prelude.{◌≡◌, ◌++◌, IfOk, OnOk};
-ghost use Rattle.account_script.specs.Asks.{ask_steps, script_of};
+ghost use Rattle.account_script.specs.Asks.{ask_steps, copy_steps, script_of, script_with};
 
 use crate::steps::Step;
 use mail_values::Memory;
@@ -43,6 +43,18 @@ pub fn script(alloc: Global, ask: &Ask, up: bool) -> Result<Vec<Step>, Memory>
     Ok(steps)
 }
 
+/// Returns the steps that copy a message to the folder of sent messages.
+pub fn copy_script(alloc: Global, up: bool) -> Result<Vec<Step>, Memory>
+    ensures { IfOk result (λ steps. steps.items ≡ script_with copy_steps up) }
+{
+    let mut steps = Vec::new(alloc);
+    if !up {
+        steps.extend_from_slice(&LOGIN)?;
+    }
+    steps.push(Step::Copy)?;
+    Ok(steps)
+}
+
 fn push_steps(steps: &mut Vec<Step>, ask: &Ask) -> Result<(), Memory>
     ensures { OnOk result (steps.new.items ≡ steps.old.items ++ ask_steps ask.now) }
 {
@@ -53,6 +65,7 @@ fn push_steps(steps: &mut Vec<Step>, ask: &Ask) -> Result<(), Memory>
             steps.extend_from_slice(&CATCH_UP)?;
             steps.extend_from_slice(&READ_MESSAGE)?;
         }
+        Ask::SendDraft { .. } => steps.push(Step::Noop)?,
         _ => {}
     }
     Ok(())

@@ -4,9 +4,10 @@ ghost use Rattle.imap_commands.specs.declared.command.Command.TheVariants as com
 ghost use Rattle.account_script.specs.declared.steps.Act.TheVariants as acts;
 ghost use Rattle.mailbox_view.specs.Selections.{box_named};
 ghost use Rattle.account_script.specs.Asks.{address_of, folder_of};
-ghost use Rattle.account_script.specs.Script.{act_of, body_act, body_of, check_act, check_size_act, checked, enter_act, fetch_body_act, fetch_changed_act, fetch_new_act, find_act, need_act, progress_of, row_act, row_of, size_act, validity_of, IsFit};
+ghost use Rattle.account_script.specs.Script.{act_of, act_with, body_act, body_of, check_act, check_size_act, checked, enter_act, fetch_body_act, fetch_changed_act, fetch_new_act, find_act, need_act, progress_of, row_act, row_of, size_act, validity_of, IsFit};
 
 use crate::cause::Cause;
+use crate::copies::copy;
 use crate::folders::{
     address_of, body_of, folder_of, has_folder, is_selected, known_of, mark_of, next_uid, row_of,
     validity_of,
@@ -58,6 +59,10 @@ pub enum Step {
     FetchBody,
     /// Stops if no body came.
     NeedBody,
+    /// Asks for nothing: the server answers if the connection is there.
+    Noop,
+    /// Appends the message to the folder of sent messages, if there is one.
+    Copy,
 }
 
 /// What the steps of a script remember.
@@ -78,7 +83,7 @@ pub enum Act {
     Stop(Cause),
 }
 
-/// Returns what a step comes to.
+/// Returns what a step comes to, in a script that copies no message.
 pub fn act_at(
     alloc: Global,
     step: Step,
@@ -106,6 +111,27 @@ pub fn act_at(
         Step::CheckSize => Ok(check_size(ask, told)),
         Step::FetchBody => Ok(fetch_body(ask)),
         Step::NeedBody => Ok(need_body(told)),
+        Step::Noop => Ok(Act::Say(Command::Noop)),
+        Step::Copy => Ok(Act::Skip),
+    }
+}
+
+/// Returns what a step comes to, in a script that copies `message`.
+pub fn act_with(
+    alloc: Global,
+    message: &[u8],
+    step: Step,
+    who: &Credentials,
+    ask: &Ask,
+    told: &Told,
+    progress: Progress,
+) -> Result<Act, Memory>
+    ensures equals { IfOk result (λ act. act ≡ act_with message.now step who.now ask.now told.now progress) }
+    ensures fits { IfOk result (λ act. IsFit act) }
+{
+    match step {
+        Step::Copy => copy(alloc, message, told),
+        _ => act_at(alloc, step, who, ask, told, progress),
     }
 }
 

@@ -12,7 +12,7 @@ use Rattle.account_script.specs.declared.steps.Act.TheVariants as act
 use Rattle.account_script.specs.declared.steps.Progress.{Progress}
 use Rattle.account_script.specs.declared.steps.Step.{Step}
 use Rattle.account_script.specs.declared.steps.Step.TheVariants as step
-use Rattle.account_script.specs.Script.{act_of, progress_of}
+use Rattle.account_script.specs.Script.{act_with, progress_of}
 use Rattle.account_turns.specs.declared.endings.Ending.{Ending}
 use Rattle.account_turns.specs.declared.endings.Ending.TheVariants.{Done, Stopped, Failed}
 use Rattle.account_turns.specs.Exchanges.{IsIdleAfter, IsUnheard, Spoken}
@@ -25,7 +25,7 @@ is_dial act.Dial = true
 is_dial _ = false
 
 -- a step that doesn't dial comes when a command may be said
-pub steady : (unsteady : Bool) (one : Step) (e : Errand) (t : ToldState) (p : Progress) (a : Act) → MayTake unsteady one → act_of one e.who e.ask t p ≡ a → is_dial a ≡ false → unsteady ≡ false
+pub steady : (unsteady : Bool) (one : Step) (e : Errand) (t : ToldState) (p : Progress) (a : Act) → MayTake unsteady one → act_with e.message one e.who e.ask t p ≡ a → is_dial a ≡ false → unsteady ≡ false
 steady false one e t p a may is not_dial = refl
 steady true step.Dial e t p a may is not_dial = absurd (let x : true ≡ false = ap is_dial is ∙ not_dial in cc)
 steady true step.LogIn e t p a may is not_dial = absurd may
@@ -42,6 +42,8 @@ steady true step.Check e t p a may is not_dial = absurd may
 steady true step.CheckSize e t p a may is not_dial = absurd may
 steady true step.FetchBody e t p a may is not_dial = absurd may
 steady true step.NeedBody e t p a may is not_dial = absurd may
+steady true step.Noop e t p a may is not_dial = absurd may
+steady true step.Copy e t p a may is not_dial = absurd may
 
 pub idle_phase : (q : Phase) → is_idle q ≡ true → q ≡ phase.Idle
 idle_phase phase.NotDialled w = cc
@@ -65,17 +67,17 @@ pub steady_of : (fresh : Bool) (ear : TalkState) → fresh ≡ false → ear.tol
 steady_of fresh ear f idle = rw (f, idle) refl
 
 -- what the first step makes due
-pub step_due : (one : Step) (more : List Step) (e : Errand) (fresh : Bool) (p : Progress) (ear : TalkState) (t : Turn) (a : Act) → Matches e (one ∷ more) fresh p ear t → act_of one e.who e.ask ear.told p ≡ a
+pub step_due : (one : Step) (more : List Step) (e : Errand) (fresh : Bool) (p : Progress) (ear : TalkState) (t : Turn) (a : Act) → Matches e (one ∷ more) fresh p ear t → act_with e.message one e.who e.ask ear.told p ≡ a
     → due t ≡ due_by a fresh (progress_of one e.ask ear.told p) more ear.told.view.number (ready e fresh (progress_of one e.ask ear.told p) more ear.told)
 unfolding ready
 step_due one more e fresh p ear t a m is =
     m.next ∙ ap (λ (x : Act). due_by x fresh (progress_of one e.ask ear.told p) more ear.told.view.number (ready e fresh (progress_of one e.ask ear.told p) more ear.told)) is
 
 -- a step that says nothing
-pub skipped : (one : Step) (more : List Step) (e : Errand) (fresh : Bool) (p later : Progress) (ear : TalkState) (t : Turn) → Matches e (one ∷ more) fresh p ear t → act_of one e.who e.ask ear.told p ≡ act.Skip → later ≡ progress_of one e.ask ear.told p → Spoken e Done more fresh later ear t
+pub skipped : (one : Step) (more : List Step) (e : Errand) (fresh : Bool) (p later : Progress) (ear : TalkState) (t : Turn) → Matches e (one ∷ more) fresh p ear t → act_with e.message one e.who e.ask ear.told p ≡ act.Skip → later ≡ progress_of one e.ask ear.told p → Spoken e Done more fresh later ear t
 skipped one more e fresh p later ear t m is same = rw same (record { errand = m.errand; seen = m.seen; next = step_due one more e fresh p ear t act.Skip m is })
 
-pub stopped : (one : Step) (more : List Step) (e : Errand) (fresh : Bool) (p later : Progress) (ear : TalkState) (t : Turn) (cause : Cause) → Matches e (one ∷ more) fresh p ear t → act_of one e.who e.ask ear.told p ≡ act.Stop cause → later ≡ progress_of one e.ask ear.told p → Spoken e (Stopped cause) more fresh later ear t
+pub stopped : (one : Step) (more : List Step) (e : Errand) (fresh : Bool) (p later : Progress) (ear : TalkState) (t : Turn) (cause : Cause) → Matches e (one ∷ more) fresh p ear t → act_with e.message one e.who e.ask ear.told p ≡ act.Stop cause → later ≡ progress_of one e.ask ear.told p → Spoken e (Stopped cause) more fresh later ear t
 stopped one more e fresh p later ear t cause m is same = rw same (record { errand = m.errand; seen = m.seen; next = step_due one more e fresh p ear t (act.Stop cause) m is })
 
 -- ---- from one step to the next

@@ -15,16 +15,17 @@ use Rattle.account_script.specs.declared.steps.Act.TheVariants as act
 use Rattle.account_script.specs.declared.steps.Credentials.{Credentials}
 use Rattle.account_script.specs.declared.steps.Progress.{Progress}
 use Rattle.account_script.specs.declared.steps.Step.{Step}
-use Rattle.account_script.specs.Script.{act_of, progress_of}
+use Rattle.account_script.specs.Script.{act_with, progress_of}
 use Rattle.account_turns.specs.declared.endings.Last.{Last}
 use Rattle.account_turns.specs.declared.endings.Last.TheVariants as lasts
 use Rattle.account_turns.specs.Causes.{is_open, cause_of, keeps_up, last_of}
 use Rattle.turn_algebra.specs.Going.{GoesOn}
 
--- who asks what
+-- who asks what, and the message that is copied, if one is
 pub record Errand : Type 0 where
   pub who : Credentials
   pub ask : Ask
+  pub message : List ℕ
 
 -- What may come next: a dial; the next piece of a command, with the steps and the progress after it; bytes that are heard; a stop with
 -- its cause; the end, after all steps; or nothing, since a piece of a command was said only in part.
@@ -49,7 +50,7 @@ due_by (act.Stop cause) fresh progress more number later = Stops cause (progress
 unfoldable pub ready : Errand → Bool → Progress → List Step → ToldState → Due
 ready e fresh p [] t = Ends p.up
 ready e fresh p (step ∷ steps) t =
-    due_by (act_of step e.who e.ask t p) fresh (progress_of step e.ask t p) steps t.view.number (ready e fresh (progress_of step e.ask t p) steps t)
+    due_by (act_with e.message step e.who e.ask t p) fresh (progress_of step e.ask t p) steps t.view.number (ready e fresh (progress_of step e.ask t p) steps t)
 
 -- ---- the turn
 

@@ -102,7 +102,7 @@ fn write_visible_inputs(alloc: Global, out: &mut PageOut, fields: &Draft) -> Res
 }
 
 /// Returns the number of a form in 16 hexadecimal digits.
-fn form_text(alloc: Global, number: u64) -> Result<String, Memory>
+pub fn form_text(alloc: Global, number: u64) -> Result<String, Memory>
     ensures { IfOk result (λ text. string_bytes text ≡ hex_digits 16 number) }
 {
     let mut text = String::new(alloc);

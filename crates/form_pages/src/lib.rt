@@ -5,7 +5,7 @@ mod compose;
 mod identities;
 mod others;
 
-pub use compose::compose_page;
+pub use compose::{compose_page, form_text};
 pub use identities::identity_page;
 pub use others::{fault_page, login_page};
 pub use page_writer::{Memory, PageBytes};

@@ -1,6 +1,6 @@
 //! Logins and asks in words, and what is answered to them.
 ghost use Rattle.std.specs.Prelude.{◌≡◌, true, IfOk};
-ghost use Rattle.account_script.specs.Asks.{has_script};
+ghost use Rattle.account_core.specs.Served.{is_served};
 
 use account_answers::{Answer, Body};
 use account_core::{Account, Cause, LoginFault};
@@ -11,13 +11,24 @@ use record_io::Keeper;
 use site_asks::{Ask, Kind};
 use std::alloc::Global;
 
+/// An account of the site at `d.example`.
+pub fn account_over<L: Link, K: Keeper>(
+    alloc: Global,
+    mail: L,
+    post: L,
+    keeper: K,
+) -> Result<Account<L, K>, Memory> {
+    let domain = Text::from_text(alloc, "d.example")?;
+    Ok(Account::new(alloc, mail, post, keeper, domain))
+}
+
 fn number(word: Option<&str>) -> u32 {
     word.unwrap_or("").parse::<u32>().unwrap_or(1)
 }
 
 /// The ask of `folders`, `list FOLDER PAGE`, `show FOLDER VALIDITY UID`, `show FOLDER VALIDITY UID SECTION` or `part FOLDER VALIDITY UID SECTION`.
 fn ask_of(alloc: Global, text: &str) -> Result<Ask, Memory>
-    ensures served { IfOk result (λ ask. has_script ask ≡ true) }
+    ensures served { IfOk result (λ ask. is_served ask ≡ true) }
 {
     let mut words = text.split(' ');
     let name = words.next().unwrap_or("");
@@ -95,7 +106,7 @@ pub fn answer<L: Link, K: Keeper>(
     }
     let key = Text::from_text(alloc, "k")?;
     let ask = ask_of(alloc, ask)?;
-    let answer = account.handle(alloc, &key, &ask)?;
+    let answer = account.handle(alloc, &key, &ask, 0)?;
     shown(alloc, &answer)
 }
 

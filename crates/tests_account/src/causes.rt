@@ -1,7 +1,7 @@
 //! What is answered if the server's answers or an ask's address are wrong.
-use crate::asks::calls;
+use crate::asks::{account_over, calls};
 use crate::server::Server;
-use account_core::{Account, Memory};
+use account_core::Memory;
 use record_io::MemoryKeeper;
 use std::alloc::Global;
 use std::test::*;
@@ -44,7 +44,8 @@ const CASES: &str = concat!(
 fn answered(alloc: Global, change: &'static str, words: &str) -> Result<String, Memory> {
     let server = Server::new(alloc, change, 0)?;
     let keeper = MemoryKeeper::new(alloc, Vec::new(alloc));
-    let mut account = Account::new(alloc, server, keeper);
+    let post = Server::new(alloc, "", 1)?;
+    let mut account = account_over(alloc, server, post, keeper)?;
     calls(alloc, &mut account, words)
 }
 

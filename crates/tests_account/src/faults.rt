@@ -1,5 +1,5 @@
 //! Calls of the link and of the keeper that fail once, and want of memory.
-use crate::asks::{call, calls};
+use crate::asks::{account_over, call, calls};
 use crate::server::Server;
 use crate::talks::{CALLS, call_of, listed};
 use account_core::Account;
@@ -15,7 +15,8 @@ fn account_of(
     failing: u64,
 ) -> Result<Account<Server, MemoryKeeper>, Memory> {
     let keeper = MemoryKeeper::new(alloc, Vec::from_slice(alloc, &[failing])?);
-    Ok(Account::new(alloc, server, keeper))
+    let post = Server::new(alloc, "", 1)?;
+    account_over(alloc, server, post, keeper)
 }
 
 /// Makes the calls of `CALLS`, each again if it isn't answered as it is meant. Returns what was answered then.

@@ -1,7 +1,6 @@
 //! Whole talks of a session.
-use crate::asks::{call, calls};
+use crate::asks::{account_over, call, calls};
 use crate::server::Server;
-use account_core::Account;
 use mail_io::{Bytes, Memory, ScriptedLink, Words};
 use record_io::MemoryKeeper;
 use std::alloc::Global;
@@ -53,7 +52,8 @@ fn answers_a_whole_talk(rt: HostRuntime) -> Result<(), Fail> {
     let mut server = Server::new(alloc, "", 0)?;
     server.insist(SAID);
     let keeper = MemoryKeeper::new(alloc, Vec::new(alloc));
-    let mut account = Account::new(alloc, server, keeper);
+    let post = Server::new(alloc, "", 1)?;
+    let mut account = account_over(alloc, server, post, keeper)?;
     for entry in CALLS.split(" || ") {
         let (words, want) = call_of(entry);
         let got = call(alloc, &mut account, words)?;
@@ -94,7 +94,8 @@ fn push_line(bytes: &mut Bytes, line: &str) -> Result<(), Memory> {
 fn told(alloc: Global, words: &str) -> Result<String, Memory> {
     let link = ScriptedLink::new(alloc, sent(alloc)?, 2_000, 40, Vec::new(alloc))?;
     let keeper = MemoryKeeper::new(alloc, Vec::new(alloc));
-    let mut account = Account::new(alloc, link, keeper);
+    let post = ScriptedLink::new(alloc, Vec::new(alloc), 0, 0, Vec::new(alloc))?;
+    let mut account = account_over(alloc, link, post, keeper)?;
     calls(alloc, &mut account, words)
 }
 

@@ -10,7 +10,7 @@ use Rattle.account_turns.proofs.steps.follow.Goals as goal
 
 pub loop-step-preserved : goal.loop-step-preserved
 loop-step-preserved g c =
-    let e : Errand = record { who = c.args.who.now; ask = c.args.ask.now } in
+    let e : Errand = record { who = c.args.who.now; ask = c.args.ask.now; message = c.args.message.now } in
     let lt : c.loop-step.step-index < length c.args.steps.now = omega arith in
     let ready = subst (λ (x : Ending). IsReadyAfter x (is_unsteady c.take.new.fresh c.take.new.listener)) c.in-Done.is c.in_ok-take.ensures.steady in
     record {
@@ -24,21 +24,21 @@ loop-step-preserved g c =
 
 pub returns-in_err-take-clause-turn : goal.returns-in_err-take-clause-turn
 returns-in_err-take-clause-turn g c =
-    let e : Errand = record { who = c.args.who.now; ask = c.args.ask.now } in
+    let e : Errand = record { who = c.args.who.now; ask = c.args.ask.now; message = c.args.message.now } in
     let lt : c.loop-step.step-index < length c.args.steps.now = omega arith in
     λ t m. and_then _ _ _ t _ _ (c.loop-step.invariant.turn t m) (λ u n. weaker _ _ u _ _ (c.take.ensures.turn u (drop (c.loop-step.step-index + 1) c.args.steps.now) (at_step c.args.steps.now c.loop-step.step-index _ e _ _ _ u lt n))
     (λ w h. let p = err_from_is_err_and c.from_residual.result c.from_residual.ensures.1 in rw p.1 tt))
 
 pub returns-in-Stopped-clause-turn : goal.returns-in-Stopped-clause-turn
 returns-in-Stopped-clause-turn g c =
-    let e : Errand = record { who = c.args.who.now; ask = c.args.ask.now } in
+    let e : Errand = record { who = c.args.who.now; ask = c.args.ask.now; message = c.args.message.now } in
     let lt : c.loop-step.step-index < length c.args.steps.now = omega arith in
     λ t m. and_then _ _ _ t _ _ (c.loop-step.invariant.turn t m) (λ u n. weaker _ _ u _ _ (c.in_ok-take.ensures.turn u (drop (c.loop-step.step-index + 1) c.args.steps.now) (at_step c.args.steps.now c.loop-step.step-index _ e _ _ _ u lt n))
     (λ w h. stops_on c.in_ok-take.field-0 c.in-Stopped.cause _ e _ _ _ w c.in-Stopped.is h))
 
 pub returns-in-Failed-clause-turn : goal.returns-in-Failed-clause-turn
 returns-in-Failed-clause-turn g c =
-    let e : Errand = record { who = c.args.who.now; ask = c.args.ask.now } in
+    let e : Errand = record { who = c.args.who.now; ask = c.args.ask.now; message = c.args.message.now } in
     let lt : c.loop-step.step-index < length c.args.steps.now = omega arith in
     λ t m. and_then _ _ _ t _ _ (c.loop-step.invariant.turn t m) (λ u n. weaker _ _ u _ _ (c.in_ok-take.ensures.turn u (drop (c.loop-step.step-index + 1) c.args.steps.now) (at_step c.args.steps.now c.loop-step.step-index _ e _ _ _ u lt n))
     (λ w h. fails_on c.in_ok-take.field-0 _ e _ _ _ w h))

@@ -1,0 +1,5 @@
+pub mod LetterLemmas
+pub mod OnceLemmas
+pub mod SendLemmas
+pub mod DotLemmas
+mod SendExamples

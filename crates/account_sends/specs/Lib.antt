@@ -1,0 +1,4 @@
+pub mod Outboxes
+pub mod Sends
+pub mod Once
+pub mod Dots
