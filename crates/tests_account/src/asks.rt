@@ -12,7 +12,7 @@ use site_asks::{Ask, Kind};
 use std::alloc::Global;
 
 /// An account of the site at `d.example`.
-pub fn account_over<L: Link, K: Keeper>(
+pub fn account_over<L: Link + Drop, K: Keeper + Drop>(
     alloc: Global,
     mail: L,
     post: L,
