@@ -67,6 +67,26 @@ classes_go_on rest word after size old new class q at lt is next goal added =
     ap (λ (b : Bool). b || is_among_words q (slice_split is_white after)) added ∙ or_swap (bytes_eq word q) old (is_among_words q (slice_split is_white after))
     ∙ ap (λ (ws : List (List ℕ)). old || is_among_words q ws) (sym split) ∙ goal
 
+-- one word of a text is compared
+
+pub class_last : (rest word : List ℕ) (size : ℕ) (here class : Bool) (q : List ℕ) → size ≡ position_or_len is_white rest → size ≡ length rest → word ≡ take size rest
+    → is_among_words q (slice_split is_white rest) ≡ class → here ≡ bytes_eq word q → here ≡ class
+class_last rest word size here class q at all is goal compared = classes_end rest word size false here class q at all is goal (compared ∙ sym (or_none (bytes_eq word q)))
+
+class_not_last : (rest word after : List ℕ) (size : ℕ) (here class : Bool) (q : List ℕ) → size ≡ position_or_len is_white rest → size < length rest → word ≡ take size rest → after ≡ drop (size + 1) rest
+    → is_among_words q (slice_split is_white rest) ≡ class → here ≡ bytes_eq word q → (here || is_among_words q (slice_split is_white after)) ≡ class
+class_not_last rest word after size here class q at lt is next goal compared = classes_go_on rest word after size false here class q at lt is next goal (compared ∙ sym (or_none (bytes_eq word q)))
+
+pub class_here : (rest word after : List ℕ) (size : ℕ) (here class : Bool) (q : List ℕ) → size ≡ position_or_len is_white rest → size < length rest → word ≡ take size rest → after ≡ drop (size + 1) rest
+    → is_among_words q (slice_split is_white rest) ≡ class → here ≡ bytes_eq word q → here ≡ true → true ≡ class
+class_here rest word after size here class q at lt is next goal compared is_it =
+    ap (λ (b : Bool). b || is_among_words q (slice_split is_white after)) (sym is_it) ∙ class_not_last rest word after size here class q at lt is next goal compared
+
+pub class_further : (rest word after : List ℕ) (size : ℕ) (here class : Bool) (q : List ℕ) → size ≡ position_or_len is_white rest → size < length rest → word ≡ take size rest → after ≡ drop (size + 1) rest
+    → is_among_words q (slice_split is_white rest) ≡ class → here ≡ bytes_eq word q → here ≡ false → is_among_words q (slice_split is_white after) ≡ class
+class_further rest word after size here class q at lt is next goal compared is_other =
+    ap (λ (b : Bool). b || is_among_words q (slice_split is_white after)) (sym is_other) ∙ class_not_last rest word after size here class q at lt is next goal compared
+
 -- ---- what was found
 
 pub found_more : (items new : List (Bor CodeEntry)) (e : Bor CodeEntry) → new ≡ items ++ e ∷ [] → found new ≡ entry_seen e.now ∷ found items

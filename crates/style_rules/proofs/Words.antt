@@ -14,8 +14,9 @@ use Rattle.style_rules.specs.Selectors.Selector.{ByName, ByClass, ByBoth}
 use Rattle.style_rules.specs.Rules.{Entry, Rule}
 use Rattle.style_rules.specs.Cascade.{entries_of, has_class}
 use Rattle.style_rules.specs.Seen.{rule_seen}
-use Rattle.style_rules.specs.Steps.{AddsClass, AreKnown, AreRight, IsKnown, IsRight, has_word, is_in_group}
+use Rattle.style_rules.specs.Steps.{AddsClass, AreKnown, AreRight, IsKnown, IsRight, has_of, has_word, is_in_group}
 use Rattle.style_rules.specs.declared.rule_list.Rule.{Rule as CodeRule}
+use Rattle.style_rules.specs.declared.cascade.Classes.{Classes}
 use Rattle.style_rules.specs.declared.cascade.Group.{Group}
 use Rattle.style_rules.specs.declared.cascade.Group.TheVariants as group
 use Rattle.style_rules.proofs.TextSteps.{last_piece}
@@ -79,22 +80,22 @@ one_more_known rs i r old new lt is k adds =
 
 -- ---- the rules that are for an element
 
-right_test : (g : Group) (name : Name) (words : BTreeMap (Bor (List ℕ)) Bool) (classes : List ℕ) (s : Selector) → IsRight words classes s → is_in_group g name (has_word words) s ≡ is_in_group g name (has_class classes) s
-right_test group.Name name words classes s h = refl
-right_test group.Class name words classes (ByName own) h = refl
-right_test group.Class name words classes (ByClass class) h = h
-right_test group.Class name words classes (ByBoth own class) h = refl
-right_test group.Both name words classes (ByName own) h = refl
-right_test group.Both name words classes (ByClass class) h = refl
-right_test group.Both name words classes (ByBoth own class) h = ap (λ (c : Bool). bytes_eq own name && c) h
+right_test : (g : Group) (name : Name) (has : List ℕ → Bool) (classes : List ℕ) (s : Selector) → IsRight has classes s → is_in_group g name has s ≡ is_in_group g name (has_class classes) s
+right_test group.Name name has classes s h = refl
+right_test group.Class name has classes (ByName own) h = refl
+right_test group.Class name has classes (ByClass class) h = h
+right_test group.Class name has classes (ByBoth own class) h = refl
+right_test group.Both name has classes (ByName own) h = refl
+right_test group.Both name has classes (ByClass class) h = refl
+right_test group.Both name has classes (ByBoth own class) h = ap (λ (c : Bool). bytes_eq own name && c) h
 
-pub right_entries : (g : Group) (name : Name) (words : BTreeMap (Bor (List ℕ)) Bool) (classes : List ℕ) (rules : List Rule) → AreRight words classes rules
-    → entries_of (is_in_group g name (has_word words)) rules ≡ entries_of (is_in_group g name (has_class classes)) rules
-right_entries g name words classes [] h = no_entries (is_in_group g name (has_word words)) ∙ sym (no_entries (is_in_group g name (has_class classes)))
+pub right_entries : (g : Group) (name : Name) (words : Classes) (classes : List ℕ) (rules : List Rule) → AreRight words classes rules
+    → entries_of (is_in_group g name (has_of words)) rules ≡ entries_of (is_in_group g name (has_class classes)) rules
+right_entries g name words classes [] h = no_entries (is_in_group g name (has_of words)) ∙ sym (no_entries (is_in_group g name (has_class classes)))
 right_entries g name words classes (r ∷ rules) h =
-    let p = is_in_group g name (has_word words) in
+    let p = is_in_group g name (has_of words) in
     let q = is_in_group g name (has_class classes) in
-    let e = right_test g name words classes r.selector h.0 in
+    let e = right_test g name (has_of words) classes r.selector h.0 in
     elim (cases_Bool (p r.selector)) [
       | inl passes ↦ entries_more p r rules passes ∙ ap (λ (es : List Entry). r.entries ++ es) (right_entries g name words classes rules h.1) ∙ sym (entries_more q r rules (sym e ∙ passes))
       | inr other ↦ entries_other p r rules other ∙ right_entries g name words classes rules h.1 ∙ sym (entries_other q r rules (sym e ∙ other))

@@ -13,12 +13,19 @@ use Rattle.style_rules.specs.Rules.{Entry, Rule}
 use Rattle.style_rules.specs.Cascade.{has_class, has_property, is_by_name, is_by_class, is_by_both}
 use Rattle.style_rules.specs.Seen.{entry_seen}
 use Rattle.style_rules.specs.declared.entries.Entry.{Entry as CodeEntry}
+use Rattle.style_rules.specs.declared.cascade.Classes.{Classes}
+use Rattle.style_rules.specs.declared.cascade.Classes.TheVariants as classes
 use Rattle.style_rules.specs.declared.cascade.Group.{Group}
 use Rattle.style_rules.specs.declared.cascade.Group.TheVariants as group
 
 -- the words that a map has
 abbrev pub has_word : BTreeMap (Bor (List ℕ)) Bool → List ℕ → Bool
 has_word words word = is_some (get_by (λ k. slice_cmp nat_cmp word k.now) words)
+
+-- the classes that an element was found to have
+abbrev pub has_of : Classes → List ℕ → Bool
+has_of (classes.Text text) class = has_class text.now class
+has_of (classes.Words words) class = has_word words class
 
 -- the map has the classes of a text
 abbrev pub HasClasses : BTreeMap (Bor (List ℕ)) Bool → List ℕ → Type 0
@@ -50,14 +57,14 @@ pub record AddsClass (old : BTreeMap (Bor (List ℕ)) Bool) (selector : Selector
   pub keeps : (class : List ℕ) → has_word old class ≡ true → has_word new class ≡ true
   pub adds : IsKnown new selector
 
--- the map has the class of a selector exactly if the text has it
-abbrev pub IsRight : BTreeMap (Bor (List ℕ)) Bool → List ℕ → Selector → Type 0
-IsRight words classes (ByName own) = Unit {0}
-IsRight words classes (ByClass class) = has_word words class ≡ has_class classes class
-IsRight words classes (ByBoth own class) = has_word words class ≡ has_class classes class
+-- the class of a selector was found exactly if the text has it
+abbrev pub IsRight : (List ℕ → Bool) → List ℕ → Selector → Type 0
+IsRight has classes (ByName own) = Unit {0}
+IsRight has classes (ByClass class) = has class ≡ has_class classes class
+IsRight has classes (ByBoth own class) = has class ≡ has_class classes class
 
-abbrev pub AreRight : BTreeMap (Bor (List ℕ)) Bool → List ℕ → List Rule → Type 0
-AreRight words classes rules = AllByRecursion (λ r. IsRight words classes r.selector) rules
+abbrev pub AreRight : Classes → List ℕ → List Rule → Type 0
+AreRight found classes rules = AllByRecursion (λ r. IsRight (has_of found) classes r.selector) rules
 
 abbrev pub is_in_group : Group → Name → (List ℕ → Bool) → Selector → Bool
 is_in_group group.Name name has selector = is_by_name name selector

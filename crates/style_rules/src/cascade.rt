@@ -1,8 +1,8 @@
 //! What rules declare for an element.
 ghost use Rattle.std.specs.Prelude.{◌≡◌, [], IfOk, OnOk, map, string_bytes};
-ghost use Rattle.style_rules.specs.Cascade.{declared as declared_style, entries_of, has_property as has_property_in, joined};
+ghost use Rattle.style_rules.specs.Cascade.{declared as declared_style, entries_of, has_class, has_property as has_property_in, joined};
 ghost use Rattle.style_rules.specs.Seen.{entries_seen, entry_seen, rule_seen, selector_seen};
-ghost use Rattle.style_rules.specs.Steps.{AddsClass, AddsKnown, AddsWord, AreKnown, AreRight, HasClasses, HasKnownClasses, before_later, found, has_word, is_in_group};
+ghost use Rattle.style_rules.specs.Steps.{AddsClass, AddsKnown, AddsWord, AreKnown, AreRight, HasClasses, HasKnownClasses, before_later, found, has_of, has_word, is_in_group};
 
 use crate::blocks::find_white;
 use crate::entries::Entry;
@@ -22,6 +22,13 @@ pub enum Group {
 /// The classes of an element. A map in order, since whoever writes a message could make a hash table slow.
 type Words<'c> = BTreeMap<&'c [u8], bool>;
 
+/// The classes of an element: the text of a short `class` itself, or a map of its words.
+#[derive(Drop)]
+pub enum Classes<'c> {
+    Text(&'c [u8]),
+    Words(Words<'c>),
+}
+
 /// The most bytes that rules may declare.
 const DECLARED_LIMIT: usize = 1024;
 
@@ -29,11 +36,11 @@ const DECLARED_LIMIT: usize = 1024;
 pub fn declared(alloc: Global, rules: &[Rule], name: &str, classes: &str) -> Result<String, Memory>
     ensures { IfOk result (λ style. string_bytes style ≡ declared_style (map rule_seen rules.now) name.now classes.now) }
 {
-    let words = class_words(alloc, rules, classes.as_bytes())?;
+    let classes = classes_of(alloc, rules, classes.as_bytes())?;
     let mut last = Vec::new(alloc);
-    add_group(rules, Group::Both, name, &words, &mut last)?;
-    add_group(rules, Group::Class, name, &words, &mut last)?;
-    add_group(rules, Group::Name, name, &words, &mut last)?;
+    add_group(rules, Group::Both, name, &classes, &mut last)?;
+    add_group(rules, Group::Class, name, &classes, &mut last)?;
+    add_group(rules, Group::Name, name, &classes, &mut last)?;
     let style = join(alloc, &last)?;
     if style.len() > DECLARED_LIMIT {
         return Ok(String::new(alloc));
@@ -41,18 +48,28 @@ pub fn declared(alloc: Global, rules: &[Rule], name: &str, classes: &str) -> Res
     Ok(style)
 }
 
+/// The length in bytes of a `class` that is searched for each rule, which is faster than making a map of its words.
+const SEARCHED_CLASSES: usize = 16;
+
 /// The length in bytes of a `class` of which all words are kept. Of a longer one only those are kept that are classes of rules.
 const SHORT_CLASSES: usize = 4096;
 
 /// Returns the classes of an element, or those that rules name.
-fn class_words<'c>(alloc: Global, rules: &[Rule], classes: &'c [u8]) -> Result<Words<'c>, Memory>
-    ensures { IfOk result (λ words. AreRight words classes.now (map rule_seen rules.now)) }
+fn classes_of<'c>(
+    alloc: Global,
+    rules: &[Rule],
+    classes: &'c [u8],
+) -> Result<Classes<'c>, Memory>
+    ensures { IfOk result (λ found. AreRight found classes.now (map rule_seen rules.now)) }
 {
+    if classes.len() <= SEARCHED_CLASSES {
+        return Ok(Classes::Text(classes));
+    }
     if classes.len() <= SHORT_CLASSES {
-        return all_words(alloc, classes);
+        return Ok(Classes::Words(all_words(alloc, classes)?));
     }
     let known = rule_classes(alloc, rules)?;
-    known_words(alloc, &known, classes)
+    Ok(Classes::Words(known_words(alloc, &known, classes)?))
 }
 
 /// Returns the classes that rules name.
@@ -133,15 +150,43 @@ fn has_word_of(words: &Words<'_>, word: &[u8]) -> bool
     words.contains_key(word)
 }
 
+/// Whether a class is one of those in a text, between white space.
+fn has_class(classes: &[u8], class: &[u8]) -> bool
+    ensures { result ≡ has_class classes.now class.now }
+{
+    let mut rest = classes;
+    'words: loop {
+        let size = find_white(rest);
+        let here = &rest[..size] == class;
+        if size == rest.len() {
+            return here;
+        }
+        if here {
+            return true;
+        }
+        rest = &rest[size + 1..];
+    }
+}
+
+/// Whether an element has a class.
+fn has_class_of(classes: &Classes<'_>, class: &[u8]) -> bool
+    ensures { result ≡ has_of classes.now class.now }
+{
+    match classes {
+        Classes::Text(text) => has_class(text, class),
+        Classes::Words(words) => has_word_of(words, class),
+    }
+}
+
 /// Whether a rule of the group is for an element.
-fn is_for(selector: &Selector, group: Group, name: &str, words: &Words<'_>) -> bool
-    ensures { result ≡ is_in_group group name.now (has_word words.now) (selector_seen selector.now) }
+fn is_for(selector: &Selector, group: Group, name: &str, classes: &Classes<'_>) -> bool
+    ensures { result ≡ is_in_group group name.now (has_of classes.now) (selector_seen selector.now) }
 {
     match (group, selector) {
         (Group::Name, Selector::ByName(own)) => own.as_bytes() == name.as_bytes(),
-        (Group::Class, Selector::ByClass(class)) => has_word_of(words, class),
+        (Group::Class, Selector::ByClass(class)) => has_class_of(classes, class),
         (Group::Both, Selector::ByBoth(own, class)) => {
-            own.as_bytes() == name.as_bytes() && has_word_of(words, class)
+            own.as_bytes() == name.as_bytes() && has_class_of(classes, class)
         }
         _ => false,
     }
@@ -152,16 +197,16 @@ fn add_group<'r>(
     rules: &'r [Rule],
     group: Group,
     name: &str,
-    words: &Words<'_>,
+    classes: &Classes<'_>,
     last: &mut Vec<&'r Entry>,
 ) -> Result<(), Memory>
-    ensures { OnOk result (found last.new.items ≡ before_later (entries_of (is_in_group group name.now (has_word words.now)) (map rule_seen rules.now)) (found last.old.items)) }
+    ensures { OnOk result (found last.new.items ≡ before_later (entries_of (is_in_group group name.now (has_of classes.now)) (map rule_seen rules.now)) (found last.old.items)) }
 {
     let mut at = rules.len();
     while at > 0 {
         at -= 1;
         let rule = &rules[at];
-        if is_for(&rule.selector, group, name, words) {
+        if is_for(&rule.selector, group, name, classes) {
             add_entries(&rule.entries, last)?;
         }
     }
