@@ -8,7 +8,9 @@ Build the program first, by `tools/build bench`. Then run this file, from anywhe
 TIMES is the number of times that each text is measured (5 by default), PATH a program that washes a file by bluemonday (Go) as
 `PATH bench FILE RUNS` and prints its MB for each processor second; it is left out if there is no such program, which
 $BLUEMONDAY may name too. Times are processor seconds of a call, the mean of a process that makes TIMES of them and reads the text, less those on an
-empty text: a call also reads the message of 1,000 parts that the text is said to belong to. Less than a millisecond counts as one. 'growth' is that of the whole text by that of a tenth of it.
+empty text: a call also reads the message of 1,000 parts that the text is said to belong to. Less than a millisecond counts as one. 'growth' is that of the
+whole text by that of a tenth of it, of which ten times as many calls are made. A tenth that takes less than 20 milliseconds may fit into the processor's
+cache: then growth is that of a text of ten times the size by that of the whole one.
 Memory is the highest that the program held, less what it held on an empty text and less the text and the page, for each byte of the text.
 
 It ends with status 1 if the mail is washed less than 3.5 times as fast as by bluemonday or takes more than 2 bytes of memory for each
@@ -32,6 +34,10 @@ LARGE = 20_000_000
 MESSAGE = 26_000_000
 MANY = 1_000_000
 NAMES = 4_000_000
+# seconds below which a text may fit into the cache of the processor
+CACHED = 0.02
+# glibc keeps what was freed for the next call, however large it is, so that no size is charged for fresh pages at each call
+KEEPING = {"MALLOC_MMAP_THRESHOLD_": str(1 << 30), "MALLOC_TRIM_THRESHOLD_": str(1 << 34)}
 
 HEAD = (
     '<!DOCTYPE html>\r\n<html><head><meta http-equiv="Content-Type" content="text/html; charset=utf-8"><title>The week</title>\r\n'
@@ -180,7 +186,7 @@ class Run:
 
     def __init__(self, work, path, times):
         with open(path, "rb") as source:
-            child = subprocess.Popen([PROGRAM, work, str(times)], stdin=source, stdout=subprocess.PIPE, stderr=subprocess.PIPE)
+            child = subprocess.Popen([PROGRAM, work, str(times)], stdin=source, stdout=subprocess.PIPE, stderr=subprocess.PIPE, env={**os.environ, **KEEPING})
         self.memory, ended = 0, 0
         while not ended:
             self.memory = max(self.memory, high_water(child.pid))
@@ -249,11 +255,13 @@ def measure_mail(folder, alone, times, peer, missed):
 
 def measure_shape(name, work, make, size, most, folder, alone, times, base, missed):
     data = make(size)
-    path = stored(folder, "text", data)
-    tenth = stored(folder, "tenth", make(size // 10))
-    run = Run(work, path, times)
+    run = Run(work, stored(folder, "text", data), times)
     seconds = alone.seconds(work, run)
-    growth = seconds / alone.seconds(work, Run(work, tenth, times))
+    tenth = alone.seconds(work, Run(work, stored(folder, "other", make(size // 10)), 10 * times))
+    if tenth < CACHED:
+        growth = alone.seconds(work, Run(work, stored(folder, "other", make(10 * size)), times)) / seconds
+    else:
+        growth = seconds / tenth
     more = seconds / len(data) / base
     print(
         f"{name:34} {len(data) / 1e6:6.1f} MB  {seconds / len(data) * 1e9:7.1f} ns a byte  {more:5.2f} times the mail  growth {growth:5.1f}"
