@@ -55,11 +55,7 @@ const SEARCHED_CLASSES: usize = 16;
 const SHORT_CLASSES: usize = 4096;
 
 /// Returns the classes of an element, or those that rules name.
-fn classes_of<'c>(
-    alloc: Global,
-    rules: &[Rule],
-    classes: &'c [u8],
-) -> Result<Classes<'c>, Memory>
+fn classes_of<'c>(alloc: Global, rules: &[Rule], classes: &'c [u8]) -> Result<Classes<'c>, Memory>
     ensures { IfOk result (λ found. AreRight found classes.now (map rule_seen rules.now)) }
 {
     if classes.len() <= SEARCHED_CLASSES {
